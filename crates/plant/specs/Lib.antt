@@ -1,0 +1,6 @@
+pub mod Causes
+pub mod Plant
+pub mod Clock
+pub mod Entropy
+pub mod Stream
+pub mod Memory
