@@ -1,0 +1,88 @@
+-- The one spelling of each entry. Numbers are big-endian; bytes are counted by a number in front of them.
+use Rattle.std.specs.Prelude.{◌≡◌, ℕ, ◌<◌, ◌≤◌, ◌^◌, List, [], ◌∷◌, ◌++◌, length, Bool, IsTrue, if◌then◌else◌}
+use Rattle.std.specs.List.{flat_map, AllByRecursion}
+use Rattle.std.specs.Int.{Width, w8, w16, w32, w64, to_be_bytes}
+use Rattle.gate_base.specs.declared.name.Address.TheVariants.{V4, V6}
+use Rattle.gate_base.specs.declared.name.Name.{Name}
+use Rattle.gate_base.specs.declared.name.Target.{Target}
+use Rattle.gate_base.specs.declared.name.Target.TheVariants.{Dns, Ip}
+use Rattle.gate_entries.specs.declared.entry.Entry.{Entry}
+use Rattle.gate_entries.specs.declared.entry.What.{What}
+use Rattle.gate_entries.specs.declared.entry.What.TheVariants.{Settings, Order}
+use Rattle.gate_entries.specs.Name.{name_text, is_name}
+
+-- how many bytes there are, and the bytes
+abbrev pub counted : Width → List ℕ → List ℕ
+counted width bytes = to_be_bytes width (length bytes) ++ bytes
+
+-- a truth value: 0 or 1
+abbrev pub truth : Bool → List ℕ
+truth value = (if value then 1 else 0) ∷ []
+
+-- 1, whether it is a wildcard, and the name's text without `*.`
+abbrev pub name_bytes : Name → List ℕ
+name_bytes name = (1 ∷ []) ++ truth name.wild ++ counted w8 (name_text name.labels)
+
+-- a name; 2 and an IPv4 address; 3 and an IPv6 address
+abbrev pub target_bytes : Target → List ℕ
+target_bytes (Dns name) = name_bytes name
+target_bytes (Ip (V4 octets)) = 2 ∷ octets
+target_bytes (Ip (V6 octets)) = 3 ∷ octets
+
+abbrev pub targets_bytes : List Target → List ℕ
+targets_bytes targets = to_be_bytes w8 (length targets) ++ flat_map target_bytes targets
+
+-- which kind of entry it is
+abbrev pub kind_of : What → ℕ
+kind_of (Settings bytes) = 1
+kind_of (Order key common days targets request) = 2
+
+-- the fields of each kind
+abbrev pub what_bytes : What → List ℕ
+what_bytes (Settings bytes) = counted w32 bytes
+what_bytes (Order key common days targets request) =
+    counted w8 key ++ truth common ++ to_be_bytes w16 days ++ targets_bytes targets ++ counted w16 request
+
+-- kind, number, moment, caller, and then the fields
+abbrev pub entry_bytes : Entry → List ℕ
+entry_bytes entry =
+    (kind_of entry.what ∷ []) ++ to_be_bytes w64 entry.number ++ to_be_bytes w64 entry.moment.0 ++ counted w16 entry.caller ++ what_bytes entry.what
+
+-- ---- what has a spelling
+
+abbrev pub IsTarget : Target → Type 0
+IsTarget (Dns name) = IsTrue (is_name name.wild name.labels)
+IsTarget (Ip (V4 octets)) = length octets ≡ 4
+IsTarget (Ip (V6 octets)) = length octets ≡ 16
+
+-- at most so many targets, each with a spelling
+pub record AreTargets (targets : List Target) : Type 0 where
+  pub count : length targets < 2 ^ 8
+  pub each : AllByRecursion IsTarget targets
+
+pub record IsOrder (key : List ℕ) (days : ℕ) (targets : List Target) (request : List ℕ) : Type 0 where
+  pub key_fits : length key < 2 ^ 8
+  pub days_fit : days < 2 ^ 16
+  pub are_targets : AreTargets targets
+  pub request_fits : length request < 2 ^ 16
+
+abbrev pub IsWhat : What → Type 0
+IsWhat (Settings bytes) = length bytes < 2 ^ 32
+IsWhat (Order key common days targets request) = IsOrder key days targets request
+
+-- settings have no caller
+abbrev pub HasCaller : List ℕ → What → Type 0
+HasCaller caller (Settings bytes) = caller ≡ []
+HasCaller caller (Order key common days targets request) = Unit {0}
+
+-- an entry's greatest length
+abbrev pub most_bytes : ℕ
+most_bytes = 1114112
+
+pub record IsEntry (entry : Entry) : Type 0 where
+  pub number : entry.number < 2 ^ 64
+  pub moment : entry.moment.0 < 2 ^ 64
+  pub caller : length entry.caller < 2 ^ 16
+  pub from : HasCaller entry.caller entry.what
+  pub what : IsWhat entry.what
+  pub size : length (entry_bytes entry) ≤ most_bytes

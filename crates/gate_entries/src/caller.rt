@@ -1,0 +1,9 @@
+use gate_base::{Bytes, Role};
+
+/// Who asks.
+#[derive(Clone, Debug, PartialEq, Eq, Drop)]
+pub struct Caller {
+    /// 1 to 64 bytes.
+    pub id: Bytes,
+    pub role: Role,
+}

@@ -1,0 +1,22 @@
+//! What callers ask, what the journal keeps of it, and what they are answered.
+#![tactic(auto)]
+
+mod caller;
+mod command;
+mod entry;
+mod fault;
+mod reading;
+mod reply;
+mod writing;
+
+pub use caller::Caller;
+pub use command::Command;
+pub use entry::{Entry, What};
+pub use fault::{EntryFault, EntryRead};
+pub use gate_base::Role;
+pub use reading::read_entry;
+pub use reply::Reply;
+pub use writing::write_entry;
+
+#[cfg(test)]
+mod tests;

@@ -1,0 +1,391 @@
+ghost use Rattle.std.specs.Prelude.{◌≡◌, [], length, IfOk};
+ghost use Rattle.std.specs.List.{list_all};
+ghost use Rattle.std.specs.Int.{w8, w16, w32, w64};
+ghost use Rattle.gate_entries.specs.Name.{labels_of, name_text, is_name, is_label, is_label_byte};
+ghost use Rattle.gate_entries.specs.Reading.{Gives, Within, bytes_at, number_at, counted_at, truth_at, labels_at, name_at, v4_at, v6_at, target_at, targets_at, order_at, settings_at, what_at, kind_at, caller_at, fields_at, whole_entry, entry_of, TellsEntry};
+
+use crate::entry::{Entry, What};
+use crate::fault::{EntryFault, EntryRead, FieldFault};
+use gate_base::{Address, Bytes, Labels, Moment, Name, NoMemory, Target, Targets};
+use std::alloc::Global;
+use std::mem;
+
+/// The most bytes that an entry takes.
+const MOST_BYTES: usize = 1_114_112;
+
+/// The entry that the bytes spell, all of the bytes; or where the first field begins that is cut off or breaks a rule.
+#[tactic(auto, unfolding(crate::specs::Reading::entry_of))]
+pub fn read_entry(alloc: Global, bytes: &[u8]) -> Result<Entry, EntryRead>
+    ensures exact { TellsEntry (entry_of bytes.now) result }
+{
+    match read_whole(alloc, bytes) {
+        Ok(entry) => Ok(entry),
+        Err(FieldFault::Left(left)) => Err(EntryRead::Fault(EntryFault {
+            at: (bytes.len() - left) as u64,
+        })),
+        Err(FieldFault::NoMemory) => Err(EntryRead::NoMemory),
+    }
+}
+
+#[tactic(auto, unfolding(crate::specs::Reading::whole_entry))]
+fn read_whole(alloc: Global, bytes: &[u8]) -> Result<Entry, FieldFault>
+    ensures exact { Gives (λ entry. entry) result (whole_entry bytes.now) }
+    ensures within { Within (λ entry. []) bytes.now result }
+{
+    if bytes.len() > MOST_BYTES {
+        return Err(FieldFault::Left(bytes.len()));
+    }
+    let (entry, rest) = read_fields(alloc, bytes)?;
+    if !rest.is_empty() {
+        return Err(FieldFault::Left(rest.len()));
+    }
+    Ok(entry)
+}
+
+#[tactic(auto, unfolding(crate::specs::Reading::fields_at))]
+fn read_fields(alloc: Global, bytes: &[u8]) -> Result<(Entry, &[u8]), FieldFault>
+    ensures exact { Gives (λ x. (x.0, x.1.now)) result (fields_at bytes.now) }
+    ensures within { Within (λ x. x.1.now) bytes.now result }
+{
+    let (kind, rest) = read_kind(bytes)?;
+    let (number, rest) = read_u64(rest)?;
+    let (moment, rest) = read_u64(rest)?;
+    let (caller, rest) = read_caller(alloc, kind, rest)?;
+    let (what, rest) = read_what(alloc, kind, rest)?;
+    let entry = Entry {
+        number,
+        moment: Moment(moment),
+        caller,
+        what,
+    };
+    Ok((entry, rest))
+}
+
+#[tactic(auto, unfolding(crate::specs::Reading::kind_at))]
+fn read_kind(bytes: &[u8]) -> Result<(u8, &[u8]), FieldFault>
+    ensures exact { Gives (λ x. (x.0, x.1.now)) result (kind_at bytes.now) }
+    ensures within { Within (λ x. x.1.now) bytes.now result }
+{
+    match bytes {
+        [] => Err(FieldFault::Left(0)),
+        [1, rest @ ..] => Ok((1, rest)),
+        [2, rest @ ..] => Ok((2, rest)),
+        [_, ..] => Err(FieldFault::Left(bytes.len())),
+    }
+}
+
+#[tactic(auto, unfolding(crate::specs::Reading::caller_at))]
+fn read_caller(alloc: Global, kind: u8, bytes: &[u8]) -> Result<(Bytes, &[u8]), FieldFault>
+    ensures exact { Gives (λ x. (x.0, x.1.now)) result (caller_at kind bytes.now) }
+    ensures within { Within (λ x. x.1.now) bytes.now result }
+{
+    let (caller, rest) = read_counted16(alloc, bytes)?;
+    if kind == 1 && caller.len() > 0 {
+        return Err(FieldFault::Left(bytes.len()));
+    }
+    Ok((caller, rest))
+}
+
+#[tactic(auto, unfolding(crate::specs::Reading::what_at))]
+fn read_what(alloc: Global, kind: u8, bytes: &[u8]) -> Result<(What, &[u8]), FieldFault>
+    ensures exact { Gives (λ x. (x.0, x.1.now)) result (what_at kind bytes.now) }
+    ensures within { Within (λ x. x.1.now) bytes.now result }
+{
+    if kind == 1 {
+        read_settings(alloc, bytes)
+    } else {
+        read_order(alloc, bytes)
+    }
+}
+
+#[tactic(auto, unfolding(crate::specs::Reading::settings_at))]
+fn read_settings(alloc: Global, bytes: &[u8]) -> Result<(What, &[u8]), FieldFault>
+    ensures exact { Gives (λ x. (x.0, x.1.now)) result (settings_at bytes.now) }
+    ensures within { Within (λ x. x.1.now) bytes.now result }
+{
+    let (settings, rest) = read_counted32(alloc, bytes)?;
+    Ok((What::Settings { bytes: settings }, rest))
+}
+
+#[tactic(auto, unfolding(crate::specs::Reading::order_at))]
+fn read_order(alloc: Global, bytes: &[u8]) -> Result<(What, &[u8]), FieldFault>
+    ensures exact { Gives (λ x. (x.0, x.1.now)) result (order_at bytes.now) }
+    ensures within { Within (λ x. x.1.now) bytes.now result }
+{
+    let (key, rest) = read_counted8(alloc, bytes)?;
+    let (common, rest) = read_truth(rest)?;
+    let (days, rest) = read_u16(rest)?;
+    let (count, rest) = read_u8(rest)?;
+    let (targets, rest) = read_targets(alloc, count, rest)?;
+    let (request, rest) = read_counted16(alloc, rest)?;
+    let order = What::Order {
+        key,
+        common,
+        days,
+        targets,
+        request,
+    };
+    Ok((order, rest))
+}
+
+fn read_targets(alloc: Global, count: u8, bytes: &[u8]) -> Result<(Targets, &[u8]), FieldFault>
+    ensures exact { Gives (λ x. (x.0, x.1.now)) result (targets_at count bytes.now) }
+    ensures within { Within (λ x. x.1.now) bytes.now result }
+{
+    let mut targets = Targets::new(alloc);
+    let mut rest = bytes;
+    for _ in 0..count {
+        let (target, after) = read_target(alloc, rest)?;
+        targets.push(target)?;
+        rest = after;
+    }
+    Ok((targets, rest))
+}
+
+#[tactic(auto, unfolding(crate::specs::Reading::target_at))]
+fn read_target(alloc: Global, bytes: &[u8]) -> Result<(Target, &[u8]), FieldFault>
+    ensures exact { Gives (λ x. (x.0, x.1.now)) result (target_at bytes.now) }
+    ensures within { Within (λ x. x.1.now) bytes.now result }
+{
+    match bytes {
+        [] => Err(FieldFault::Left(0)),
+        [1, rest @ ..] => read_name(alloc, rest),
+        [2, rest @ ..] => read_v4(rest),
+        [3, rest @ ..] => read_v6(rest),
+        [_, ..] => Err(FieldFault::Left(bytes.len())),
+    }
+}
+
+#[tactic(auto, unfolding(crate::specs::Reading::v4_at))]
+fn read_v4(bytes: &[u8]) -> Result<(Target, &[u8]), FieldFault>
+    ensures exact { Gives (λ x. (x.0, x.1.now)) result (v4_at bytes.now) }
+    ensures within { Within (λ x. x.1.now) bytes.now result }
+{
+    match bytes {
+        [a, b, c, d, rest @ ..] => Ok((Target::Ip(Address::V4([*a, *b, *c, *d])), rest)),
+        _ => Err(FieldFault::Left(bytes.len())),
+    }
+}
+
+#[tactic(auto, unfolding(crate::specs::Reading::v6_at))]
+fn read_v6(bytes: &[u8]) -> Result<(Target, &[u8]), FieldFault>
+    ensures exact { Gives (λ x. (x.0, x.1.now)) result (v6_at bytes.now) }
+    ensures within { Within (λ x. x.1.now) bytes.now result }
+{
+    if bytes.len() < 16 {
+        return Err(FieldFault::Left(bytes.len()));
+    }
+    let (octets, rest) = bytes.split_at(16);
+    Ok((Target::Ip(Address::V6(sixteen(octets))), rest))
+}
+
+#[tactic(auto, unfolding(crate::specs::Reading::name_at))]
+fn read_name(alloc: Global, bytes: &[u8]) -> Result<(Target, &[u8]), FieldFault>
+    ensures exact { Gives (λ x. (x.0, x.1.now)) result (name_at bytes.now) }
+    ensures within { Within (λ x. x.1.now) bytes.now result }
+{
+    let (wild, rest) = read_truth(bytes)?;
+    let (labels, rest) = read_labels(alloc, wild, rest)?;
+    Ok((Target::Dns(Name { labels, wild }), rest))
+}
+
+#[tactic(auto, unfolding(crate::specs::Reading::labels_at))]
+fn read_labels(alloc: Global, wild: bool, bytes: &[u8]) -> Result<(Labels, &[u8]), FieldFault>
+    ensures exact { Gives (λ x. (x.0, x.1.now)) result (labels_at wild bytes.now) }
+    ensures within { Within (λ x. x.1.now) bytes.now result }
+{
+    let (text, rest) = counted8(bytes)?;
+    let labels = labels_of(alloc, text)?;
+    if !is_name(wild, &labels, text.len()) {
+        return Err(FieldFault::Left(bytes.len()));
+    }
+    Ok((labels, rest))
+}
+
+#[tactic(auto, unfolding(crate::specs::Reading::truth_at))]
+fn read_truth(bytes: &[u8]) -> Result<(bool, &[u8]), FieldFault>
+    ensures exact { Gives (λ x. (x.0, x.1.now)) result (truth_at bytes.now) }
+    ensures within { Within (λ x. x.1.now) bytes.now result }
+{
+    match bytes {
+        [] => Err(FieldFault::Left(0)),
+        [0, rest @ ..] => Ok((false, rest)),
+        [1, rest @ ..] => Ok((true, rest)),
+        [_, ..] => Err(FieldFault::Left(bytes.len())),
+    }
+}
+
+fn read_counted8(alloc: Global, bytes: &[u8]) -> Result<(Bytes, &[u8]), FieldFault>
+    ensures exact { Gives (λ x. (x.0, x.1.now)) result (counted_at w8 bytes.now) }
+    ensures within { Within (λ x. x.1.now) bytes.now result }
+{
+    let (counted, rest) = counted8(bytes)?;
+    Ok((Bytes::from_slice(alloc, counted)?, rest))
+}
+
+#[tactic(auto, unfolding(crate::specs::Reading::counted_at))]
+fn counted8(bytes: &[u8]) -> Result<(&[u8], &[u8]), FieldFault>
+    ensures exact { Gives (λ x. (x.0.now, x.1.now)) result (counted_at w8 bytes.now) }
+    ensures within { Within (λ x. x.1.now) bytes.now result }
+{
+    let (count, rest) = read_u8(bytes)?;
+    let count = usize::from(count);
+    if rest.len() < count {
+        return Err(FieldFault::Left(bytes.len()));
+    }
+    Ok(rest.split_at(count))
+}
+
+fn read_counted16(alloc: Global, bytes: &[u8]) -> Result<(Bytes, &[u8]), FieldFault>
+    ensures exact { Gives (λ x. (x.0, x.1.now)) result (counted_at w16 bytes.now) }
+    ensures within { Within (λ x. x.1.now) bytes.now result }
+{
+    let (counted, rest) = counted16(bytes)?;
+    Ok((Bytes::from_slice(alloc, counted)?, rest))
+}
+
+#[tactic(auto, unfolding(crate::specs::Reading::counted_at))]
+fn counted16(bytes: &[u8]) -> Result<(&[u8], &[u8]), FieldFault>
+    ensures exact { Gives (λ x. (x.0.now, x.1.now)) result (counted_at w16 bytes.now) }
+    ensures within { Within (λ x. x.1.now) bytes.now result }
+{
+    let (count, rest) = read_u16(bytes)?;
+    let count = usize::from(count);
+    if rest.len() < count {
+        return Err(FieldFault::Left(bytes.len()));
+    }
+    Ok(rest.split_at(count))
+}
+
+fn read_counted32(alloc: Global, bytes: &[u8]) -> Result<(Bytes, &[u8]), FieldFault>
+    ensures exact { Gives (λ x. (x.0, x.1.now)) result (counted_at w32 bytes.now) }
+    ensures within { Within (λ x. x.1.now) bytes.now result }
+{
+    let (counted, rest) = counted32(bytes)?;
+    Ok((Bytes::from_slice(alloc, counted)?, rest))
+}
+
+#[tactic(auto, unfolding(crate::specs::Reading::counted_at))]
+fn counted32(bytes: &[u8]) -> Result<(&[u8], &[u8]), FieldFault>
+    ensures exact { Gives (λ x. (x.0.now, x.1.now)) result (counted_at w32 bytes.now) }
+    ensures within { Within (λ x. x.1.now) bytes.now result }
+{
+    let (count, rest) = read_u32(bytes)?;
+    let count = count as usize;
+    if rest.len() < count {
+        return Err(FieldFault::Left(bytes.len()));
+    }
+    Ok(rest.split_at(count))
+}
+
+fn read_u8(bytes: &[u8]) -> Result<(u8, &[u8]), FieldFault>
+    ensures exact { Gives (λ x. (x.0, x.1.now)) result (number_at w8 bytes.now) }
+    ensures within { Within (λ x. x.1.now) bytes.now result }
+{
+    if bytes.len() < 1 {
+        return Err(FieldFault::Left(bytes.len()));
+    }
+    let (front, rest) = bytes.split_at(1);
+    let number = u8::from_be_bytes([front[0]]);
+    Ok((number, rest))
+}
+
+fn read_u16(bytes: &[u8]) -> Result<(u16, &[u8]), FieldFault>
+    ensures exact { Gives (λ x. (x.0, x.1.now)) result (number_at w16 bytes.now) }
+    ensures within { Within (λ x. x.1.now) bytes.now result }
+{
+    if bytes.len() < 2 {
+        return Err(FieldFault::Left(bytes.len()));
+    }
+    let (front, rest) = bytes.split_at(2);
+    let number = u16::from_be_bytes([front[0], front[1]]);
+    Ok((number, rest))
+}
+
+fn read_u32(bytes: &[u8]) -> Result<(u32, &[u8]), FieldFault>
+    ensures exact { Gives (λ x. (x.0, x.1.now)) result (number_at w32 bytes.now) }
+    ensures within { Within (λ x. x.1.now) bytes.now result }
+{
+    if bytes.len() < 4 {
+        return Err(FieldFault::Left(bytes.len()));
+    }
+    let (front, rest) = bytes.split_at(4);
+    let number = u32::from_be_bytes([front[0], front[1], front[2], front[3]]);
+    Ok((number, rest))
+}
+
+fn read_u64(bytes: &[u8]) -> Result<(u64, &[u8]), FieldFault>
+    ensures exact { Gives (λ x. (x.0, x.1.now)) result (number_at w64 bytes.now) }
+    ensures within { Within (λ x. x.1.now) bytes.now result }
+{
+    if bytes.len() < 8 {
+        return Err(FieldFault::Left(bytes.len()));
+    }
+    let (front, rest) = bytes.split_at(8);
+    let number = u64::from_be_bytes([
+        front[0], front[1], front[2], front[3], front[4], front[5], front[6], front[7],
+    ]);
+    Ok((number, rest))
+}
+
+fn sixteen(octets: &[u8]) -> [u8; 16]
+    requires { length octets.now ≡ 16 }
+    ensures { result ≡ octets.now }
+{
+    let mut all = [0; 16];
+    all.copy_from_slice(octets);
+    all
+}
+
+/// A text cut at its dots.
+fn labels_of(alloc: Global, text: &[u8]) -> Result<Labels, NoMemory>
+    ensures { IfOk result (λ labels. labels ≡ labels_of text.now) }
+{
+    let mut labels = Labels::new(alloc);
+    let mut label = Vec::new(alloc);
+    let mut rest = text;
+    while let [byte, after @ ..] = rest {
+        if *byte == b'.' {
+            labels.push(Bytes::from_vec(mem::replace(&mut label, Vec::new(alloc))))?;
+        } else {
+            label.push(*byte)?;
+        }
+        rest = after;
+    }
+    labels.push(Bytes::from_vec(label))?;
+    Ok(labels)
+}
+
+/// Whether labels whose text has so many bytes are a name's.
+fn is_name(wild: bool, labels: &Labels, size: usize) -> bool
+    requires { size ≡ length (name_text labels.now) }
+    ensures { result ≡ is_name wild labels.now }
+{
+    let most = if wild { 251 } else { 253 };
+    are_labels(labels.as_slice()) && size <= most
+}
+
+fn are_labels(labels: &[Bytes]) -> bool
+    ensures { result ≡ list_all is_label labels.now }
+{
+    labels.iter().all(|label| is_label(label))
+}
+
+fn is_label(label: &Bytes) -> bool
+    ensures { result ≡ is_label label.now }
+{
+    let size = label.len();
+    0 < size && size <= 63 && are_label_bytes(label.as_slice())
+}
+
+fn are_label_bytes(bytes: &[u8]) -> bool
+    ensures { result ≡ list_all is_label_byte bytes.now }
+{
+    bytes.iter().all(|byte| is_label_byte(*byte))
+}
+
+fn is_label_byte(byte: u8) -> bool
+    ensures { result ≡ is_label_byte byte }
+{
+    matches!(byte, b'a'..=b'z' | b'0'..=b'9' | b'-')
+}
