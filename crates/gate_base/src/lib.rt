@@ -4,6 +4,7 @@
 mod memory;
 mod moment;
 mod name;
+mod plain;
 mod profile;
 mod seen;
 mod sequence;
@@ -13,6 +14,7 @@ mod tables;
 pub use memory::NoMemory;
 pub use moment::Moment;
 pub use name::{Address, Name, Target, Targets};
+pub use plain::Plain;
 pub use profile::{KeyKind, Profile, Role, SigAlg};
 pub use seen::{
     CaaAnswer, CaaAnswers, CaaRow, CaaRows, CaaSeen, DnsSeen, Hop, Hops, Method, Seen, WebSeen,
