@@ -1,3 +1,4 @@
 pub mod Names
 pub mod Loop
 pub mod Pieces
+pub mod Sizes

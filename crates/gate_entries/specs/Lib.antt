@@ -1,3 +1,4 @@
 pub mod Name
 pub mod Spelling
 pub mod Reading
+pub mod Command

@@ -1,7 +1,7 @@
 use gate_base::{Bytes, Role};
 
 /// Who asks.
-#[derive(Clone, Debug, PartialEq, Eq, Drop)]
+#[derive(Debug, Drop)]
 pub struct Caller {
     /// 1 to 64 bytes.
     pub id: Bytes,

@@ -1,7 +1,7 @@
 use gate_base::{Bytes, Moment, Targets};
 
 /// One entry of the journal.
-#[derive(Clone, Debug, PartialEq, Eq, Drop)]
+#[derive(Debug, Drop)]
 pub struct Entry {
     /// Its place in the history, counted from 1.
     pub number: u64,
@@ -12,7 +12,7 @@ pub struct Entry {
 }
 
 /// What an entry says.
-#[derive(Clone, Debug, PartialEq, Eq, Drop)]
+#[derive(Debug, Drop)]
 pub enum What {
     /// The settings from here on.
     Settings {
