@@ -1,5 +1,5 @@
 -- Journals as lists: one record more, and where records end.
-use Rattle.std.proofs.Common.{◌≡◌, ◌≢◌, ◌⊎◌, inl, inr, ⊎_elim, ℕ, ◌+◌, ◌-◌, ◌*◌, ◌^◌, ◌<◌, ◌≤◌, List, [], ◌∷◌, ◌++◌, length, take, drop, flat_map, Option, Some, None, option_map, refl, sym, ◌∙◌, ap, subst, arith, append_assoc, length-append}
+use Rattle.std.proofs.Common.{◌≡◌, inl, ⊎_elim, ℕ, ◌+◌, ◌-◌, ◌<◌, ◌≤◌, List, [], ◌∷◌, ◌++◌, length, take, drop, flat_map, Option, Some, None, option_map, refl, sym, ◌∙◌, ap, subst, arith, append_assoc, length-append}
 use Rattle.std.proofs.lemmas.List.{append-nil, append_cancel_left, take-append-drop, take_all, take_at, drop_at}
 use Rattle.std.proofs.lemmas.List.Concat.{flat_map-append}
 use Rattle.std.proofs.lemmas.Nat.{from_be_bytes-to_be_bytes_4}
@@ -71,7 +71,7 @@ pub stands_longer : (payloads : List (List ℕ)) (payload : List ℕ) (end : ℕ
 stands_longer payloads payload end before now change size room fits stands bytes told =
     let was = told_before (λ bytes. bytes ++ record_of payload) before bytes (sym change ∙ told) in
     subst (IsJournal (payloads ++ payload ∷ [])) (sym was.2)
-        (journal_grows payloads payload was.0 (stands was.0 was.1) fits (omega (arith, room, size was.0 was.1)))
+    (journal_grows payloads payload was.0 (stands was.0 was.1) fits (omega (arith, room, size was.0 was.1)))
 
 pub breaks : (bytes rest : List ℕ) (payloads : List (List ℕ)) → bytes ≡ flat_map record_of payloads ++ rest → AllByRecursion IsPayload payloads → IsTorn rest → 1 ≤ length rest
     → BreaksAt (head ++ bytes) (16 + (length bytes - length rest))
@@ -111,8 +111,8 @@ not_torn payload rest fits torn =
     let spelled : length_at_front (record_of payload ++ rest) ≡ length payload = from_be_bytes-to_be_bytes_4 (length payload) (omega (arith, fits.fits)) in
     let long : length (record_of payload ++ rest) ≡ 4 + length payload + length rest = omega (arith, length-append payload rest) in
     ⊎_elim (λ short. omega (arith, short, spelled, long))
-        (λ other. ⊎_elim (λ none. omega (arith, none, spelled, fits.some)) (λ more. omega (arith, more, spelled, fits.fits)) other)
-        torn
+    (λ other. ⊎_elim (λ none. omega (arith, none, spelled, fits.some)) (λ more. omega (arith, more, spelled, fits.fits)) other)
+    torn
 
 torn_none : IsTorn []
 torn_none = inl (omega arith)
@@ -146,6 +146,10 @@ one_front left right rest other same each_left each_right torn_rest torn_other =
     let behind : flat_map record_of left ++ rest ≡ flat_map record_of right ++ other =
     append_cancel_left head _ _ (sym (append_assoc head (flat_map record_of left) rest) ∙ same ∙ append_assoc head (flat_map record_of right) other) in
     one_split left right rest other behind each_left each_right torn_rest torn_other
+
+pub journal_begins : (bytes : List ℕ) (payloads : List (List ℕ)) → IsJournal payloads bytes → take 16 bytes ≡ head
+unfolding journal_of
+journal_begins bytes payloads is = ap (λ (l : List ℕ). take 16 l) is.whole ∙ take_at head (flat_map record_of payloads) 16 length-head
 
 pub one_journal : (bytes : List ℕ) (left right : List (List ℕ)) → IsJournal left bytes → IsJournal right bytes → left ≡ right
 one_journal bytes left right here there =

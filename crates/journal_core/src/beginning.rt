@@ -6,7 +6,7 @@ ghost use Rattle.plant.specs.Plant.{LeavesSigner};
 ghost use Rattle.journal_core.specs.Journal.{IsPayload, journal_of, StandsFor};
 
 use crate::fault::BeginFault;
-use crate::mounting::HEAD;
+use crate::head::HEAD;
 use crate::record::push_record;
 use crate::writing::write_at_end;
 use gate_base::NoMemory;
@@ -35,7 +35,6 @@ pub fn begin<P: Plant>(alloc: Global, plant: &mut P, payload: &[u8]) -> Result<(
     ensures some { (count : ℕ) → IsErrOf result (BeginFault.NotEmpty count) → 1 ≤ count }
     // Where bytes stand, nothing is written, whatever it answers.
     ensures kept { ForSome (P.told plant.old).bytes (λ bytes. bytes ≢ [] → (P.told plant.new).bytes ≡ (P.told plant.old).bytes) }
-    ensures unwritten { (count : ℕ) → IsErrOf result (BeginFault.NotEmpty count) → (P.told plant.new).bytes ≡ (P.told plant.old).bytes }
     ensures memory { IsErrOf result BeginFault.NoMemory → (P.told plant.new).bytes ≡ (P.told plant.old).bytes }
     ensures tells { is_some (P.told plant.new).bytes ≡ is_some (P.told plant.old).bytes }
     ensures disk { IsErrOf result BeginFault.Disk → Rose (P.told plant.old).disk_faults (P.told plant.new).disk_faults }

@@ -1,6 +1,7 @@
 //! A mounted journal, which grows at its end.
 ghost use Rattle.std.specs.Prelude.{◌≡◌, ℕ, List, ◌+◌, ◌^◌, ◌<◌, ◌≤◌, ◌↔◌, [], ◌∷◌, ◌++◌, true, false, max, length, is_some, vec_capacity, IsTrue, IfOk, IfErr, IsErrOf, OnOk, OnErr};
 ghost use Rattle.std.specs.Option.{option_map, ForSome};
+ghost use Rattle.std.specs.List.{AllByRecursion};
 ghost use Rattle.plant.specs.Causes.{HasCause, Rose};
 ghost use Rattle.plant.specs.Plant.{LeavesSigner};
 ghost use Rattle.journal_core.specs.Journal.{IsPayload, record_of, StandsFor};
@@ -32,7 +33,7 @@ impl Model for Journal {
 
     ghost view = { λ j. record { end = j.end; spare = j.spare; broken = j.broken } };
 
-    ghost invariant = { λ j. 4 + j.spare ≤ vec_capacity j.room };
+    ghost invariant = { λ j. 1 ≤ j.spare → 4 + j.spare ≤ vec_capacity j.room };
 }
 
 impl Journal {
@@ -43,16 +44,17 @@ impl Journal {
         ensures sound { IfOk result (λ mounted. mounted.0.broken ≡ false) }
         // Over every plant, told or not.
         ensures count { IfOk result (λ mounted. length mounted.1 < 2 ^ 24) }
+        ensures each { IfOk result (λ mounted. AllByRecursion IsPayload mounted.1) }
+        ensures fits { IfOk result (λ mounted. mounted.0.end ≤ MAX_BYTES) }
         ensures fault { IfErr result (λ fault. ForSome (P.told plant.old).bytes (λ bytes. Refuses fault bytes)) }
         ensures same { (P.told plant.new).bytes ≡ (P.told plant.old).bytes }
         ensures disk { IsErrOf result MountFault.Disk → Rose (P.told plant.old).disk_faults (P.told plant.new).disk_faults }
         ensures later { (P.told plant.old).disk_faults ≤ (P.told plant.new).disk_faults }
         ensures signer { LeavesSigner (P.told plant.old) (P.told plant.new) }
     {
-        let room = room_for(alloc, 0)?;
         let (end, payloads) = read_journal(alloc, plant)?;
         let journal = Journal {
-            room,
+            room: Vec::new(alloc),
             end,
             spare: 0,
             broken: false,
@@ -117,14 +119,6 @@ impl Journal {
     {
         self.broken
     }
-}
-
-fn room_for(alloc: Global, longest: u64) -> Result<Vec<u8>, NoMemory>
-    ensures { IfOk result (λ room. 4 + longest ≤ vec_capacity room) }
-{
-    let mut room = Vec::new(alloc);
-    make_room(&mut room, longest)?;
-    Ok(room)
 }
 
 fn make_room(room: &mut Vec<u8>, longest: u64) -> Result<(), NoMemory>

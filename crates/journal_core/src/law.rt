@@ -1,10 +1,11 @@
 //! What holds of all journals, for the proofs above.
-ghost use Rattle.std.specs.Prelude.{◌≡◌, ℕ, List, ◌+◌, [], ◌∷◌, ◌++◌, length};
-ghost use Rattle.journal_core.specs.Journal.{IsJournal, BreaksAt, journal_of, record_of};
+ghost use Rattle.std.specs.Prelude.{◌≡◌, ℕ, List, ◌+◌, [], ◌∷◌, ◌++◌, length, take};
+ghost use Rattle.journal_core.specs.Journal.{head, IsJournal, BreaksAt, journal_of, record_of};
 
-/// Bytes are a journal in one way at most.
+/// Bytes are a journal in one way at most, and then begin with the head.
 pub fn one_reading()
-    ensures { (bytes : List ℕ) (left right : List (List ℕ)) → IsJournal left bytes → IsJournal right bytes → left ≡ right }
+    ensures begins { (bytes : List ℕ) (payloads : List (List ℕ)) → IsJournal payloads bytes → take 16 bytes ≡ head }
+    ensures one { (bytes : List ℕ) (left right : List (List ℕ)) → IsJournal left bytes → IsJournal right bytes → left ≡ right }
 {}
 
 /// Bytes that break off do so at one place, and are no journal.

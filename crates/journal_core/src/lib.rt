@@ -3,6 +3,7 @@
 
 mod beginning;
 mod fault;
+mod head;
 mod journal;
 mod law;
 mod mounting;

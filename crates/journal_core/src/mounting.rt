@@ -1,32 +1,18 @@
 //! How a journal is read from the disk.
-ghost use Rattle.std.specs.Prelude.{◌≡◌, ℕ, List, ◌+◌, ◌-◌, ◌^◌, ◌<◌, ◌≤◌, ◌↔◌, ◌++◌, length, take, drop, IsTrue, IfOk, IfErr, IsErrOf};
+ghost use Rattle.std.specs.Prelude.{◌≡◌, ℕ, List, ◌+◌, ◌-◌, ◌^◌, ◌<◌, ◌≤◌, length, take, drop, IfOk, IfErr, IsErrOf};
 ghost use Rattle.std.specs.Option.{ForSome};
 ghost use Rattle.plant.specs.Causes.{Rose};
 ghost use Rattle.plant.specs.Plant.{LeavesSigner};
-ghost use Rattle.journal_core.specs.Journal.{head, StandsFor};
+ghost use Rattle.std.specs.List.{AllByRecursion};
+ghost use Rattle.journal_core.specs.Journal.{head, IsPayload, StandsFor};
 ghost use Rattle.journal_core.specs.Mounting.{Refuses};
 
 use crate::fault::MountFault;
-use crate::record::{HEAD_BYTES, read_records};
+use crate::head::{HEAD_BYTES, is_head};
+use crate::record::read_records;
 use gate_base::{NoMemory, Payloads};
 use plant::{MAX_BYTES, Plant};
 use std::alloc::Global;
-
-/// The line that a journal begins with.
-pub const HEAD: &[u8] = b"gate journal 00\n";
-
-fn is_same(left: &[u8], right: &[u8]) -> bool
-    ensures { IsTrue result ↔ (left.now ≡ right.now) }
-{
-    *left == *right
-}
-
-#[tactic(auto, unfolding(crate::specs::Journal::head))]
-fn is_head(bytes: &[u8]) -> bool
-    ensures { IsTrue result ↔ (bytes.now ≡ head) }
-{
-    is_same(bytes, HEAD)
-}
 
 /// The file's length, where it begins with the head and isn't too long.
 fn begun_length<P: Plant>(plant: &mut P) -> Result<u64, MountFault>
@@ -87,6 +73,8 @@ pub fn read_journal<P: Plant>(alloc: Global, plant: &mut P) -> Result<(u64, Payl
     ensures ok { IfOk result (λ found. StandsFor found.1 (P.told plant.old).bytes) }
     ensures end { IfOk result (λ found. ForSome (P.told plant.old).bytes (λ bytes. length bytes ≡ found.0)) }
     ensures count { IfOk result (λ found. length found.1 < 2 ^ 24) }
+    ensures each { IfOk result (λ found. AllByRecursion IsPayload found.1) }
+    ensures fits { IfOk result (λ found. found.0 ≤ 67108864) }
     ensures fault { IfErr result (λ fault. ForSome (P.told plant.old).bytes (λ bytes. Refuses fault bytes)) }
     ensures same { (P.told plant.new).bytes ≡ (P.told plant.old).bytes }
     ensures disk { IsErrOf result MountFault.Disk → Rose (P.told plant.old).disk_faults (P.told plant.new).disk_faults }

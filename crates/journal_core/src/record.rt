@@ -6,14 +6,12 @@ ghost use Rattle.journal_core.specs.Journal.{IsPayload, record_of, length_at_fro
 ghost use Rattle.journal_core.specs.Mounting.{RefusesRest};
 
 use crate::fault::MountFault;
+use crate::head::HEAD_BYTES;
 use gate_base::{Bytes, NoMemory, Payloads};
 use std::alloc::Global;
 
 /// The greatest length of a payload.
 pub const MAX_PAYLOAD: usize = 1_114_112;
-
-/// The length of the head.
-pub const HEAD_BYTES: usize = 16;
 
 /// The bytes of a record's length.
 const LENGTH_BYTES: usize = 4;

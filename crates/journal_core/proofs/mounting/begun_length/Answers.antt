@@ -1,4 +1,4 @@
-use Rattle.std.proofs.Common.{◌<◌, length, arith}
+use Rattle.std.proofs.Common.{arith}
 use Rattle.journal_core.proofs.Journals.{short_not_begun}
 use Rattle.journal_core.proofs.mounting.begun_length.Goals as goal
 

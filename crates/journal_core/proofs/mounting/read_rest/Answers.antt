@@ -1,4 +1,4 @@
-use Rattle.std.proofs.Common.{◌≡◌, ◌≤◌, length, take, drop, ◌∙◌, ap, arith, length-drop}
+use Rattle.std.proofs.Common.{◌≤◌, length, drop, ◌∙◌, ap, arith, length-drop}
 use Rattle.std.proofs.lemmas.List.{take_at, take_all}
 use Rattle.journal_core.proofs.mounting.read_rest.Goals as goal
 

@@ -1,4 +1,4 @@
-use Rattle.std.proofs.Common.{◌≤◌, length, arith, rules}
+use Rattle.std.proofs.Common.{◌≤◌, length, rules}
 use Rattle.journal_core.proofs.Journals.{breaks}
 use Rattle.journal_core.proofs.record.read_records.Goals as goal
 

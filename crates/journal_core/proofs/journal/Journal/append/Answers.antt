@@ -8,5 +8,5 @@ returns-in-Ok-clause-journal g c = λ payloads stands.
     let before = (g.P.Plant.told c.args.plant.now).bytes in
     let piece : c.deref.result.now ≡ record_of c.args.payload.now = c.deref.ensures.value ∙ c.fill_room.ensures.filled in
     stands_longer payloads c.args.payload.now c.args.self.now.end before _
-        (c.in-Ok.ensures.ok ∙ ap (λ (l : List ℕ). option_map (λ bytes. bytes ++ l) before) piece)
-        c.requires.end c.requires.room c.requires.payload stands
+    (c.in-Ok.ensures.ok ∙ ap (λ (l : List ℕ). option_map (λ bytes. bytes ++ l) before) piece)
+    c.requires.end c.requires.room c.requires.payload stands
