@@ -27,6 +27,11 @@ journal_one payload = ap (λ (l : List ℕ). head ++ l) (append-nil (record_of p
 pub short_not_begun : (bytes : List ℕ) → length bytes < 16 → take 16 bytes ≡ head → ⊥
 short_not_begun bytes short begun = omega (arith, ap length (sym (take_all 16 bytes (omega arith)) ∙ begun), length-head)
 
+-- how long a journal is
+pub length-journal_of : (payloads : List (List ℕ)) → length (journal_of payloads) ≡ 16 + length (flat_map record_of payloads)
+unfolding journal_of
+length-journal_of payloads = omega (arith, length-append head (flat_map record_of payloads), length-head)
+
 pub length-journal_none : length (journal_of []) ≡ 16
 length-journal_none = ap length journal_none ∙ length-head
 

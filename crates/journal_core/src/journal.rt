@@ -4,7 +4,7 @@ ghost use Rattle.std.specs.Option.{option_map, ForSome};
 ghost use Rattle.std.specs.List.{AllByRecursion};
 ghost use Rattle.plant.specs.Causes.{HasCause, Rose};
 ghost use Rattle.plant.specs.Plant.{LeavesSigner};
-ghost use Rattle.journal_core.specs.Journal.{IsPayload, record_of, StandsFor};
+ghost use Rattle.journal_core.specs.Journal.{IsPayload, record_of, journal_of, StandsFor};
 ghost use Rattle.journal_core.specs.Mounting.{Refuses};
 
 use crate::fault::{AppendDisk, MountFault};
@@ -43,6 +43,7 @@ impl Journal {
         ensures end { IfOk result (λ mounted. ForSome (P.told plant.old).bytes (λ bytes. length bytes ≡ mounted.0.end)) }
         ensures sound { IfOk result (λ mounted. mounted.0.broken ≡ false) }
         // Over every plant, told or not.
+        ensures size { IfOk result (λ mounted. mounted.0.end ≡ length (journal_of mounted.1)) }
         ensures count { IfOk result (λ mounted. length mounted.1 < 2 ^ 24) }
         ensures each { IfOk result (λ mounted. AllByRecursion IsPayload mounted.1) }
         ensures fits { IfOk result (λ mounted. mounted.0.end ≤ MAX_BYTES) }

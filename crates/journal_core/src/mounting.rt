@@ -4,7 +4,7 @@ ghost use Rattle.std.specs.Option.{ForSome};
 ghost use Rattle.plant.specs.Causes.{Rose};
 ghost use Rattle.plant.specs.Plant.{LeavesSigner};
 ghost use Rattle.std.specs.List.{AllByRecursion};
-ghost use Rattle.journal_core.specs.Journal.{head, IsPayload, StandsFor};
+ghost use Rattle.journal_core.specs.Journal.{head, journal_of, IsPayload, StandsFor};
 ghost use Rattle.journal_core.specs.Mounting.{Refuses};
 
 use crate::fault::MountFault;
@@ -72,6 +72,7 @@ fn read_rest<P: Plant>(alloc: Global, plant: &mut P, end: u64) -> Result<Vec<u8>
 pub fn read_journal<P: Plant>(alloc: Global, plant: &mut P) -> Result<(u64, Payloads), MountFault>
     ensures ok { IfOk result (λ found. StandsFor found.1 (P.told plant.old).bytes) }
     ensures end { IfOk result (λ found. ForSome (P.told plant.old).bytes (λ bytes. length bytes ≡ found.0)) }
+    ensures size { IfOk result (λ found. found.0 ≡ length (journal_of found.1)) }
     ensures count { IfOk result (λ found. length found.1 < 2 ^ 24) }
     ensures each { IfOk result (λ found. AllByRecursion IsPayload found.1) }
     ensures fits { IfOk result (λ found. found.0 ≤ 67108864) }

@@ -1,6 +1,6 @@
-use Rattle.std.proofs.Common.{sym, ◌∙◌, subst, arith, Result, Ok, Err, IfErr, IsErrAnd}
+use Rattle.std.proofs.Common.{◌≡◌, length, flat_map, sym, ◌∙◌, ap, subst, arith, Result, Ok, Err, IfErr, IsErrAnd}
 use Rattle.journal_core.specs.Mounting.{Refuses}
-use Rattle.journal_core.proofs.Journals.{whole_journal, refuses_whole}
+use Rattle.journal_core.proofs.Journals.{length-journal_of, whole_journal, refuses_whole}
 use Rattle.journal_core.proofs.mounting.read_journal.Goals as goal
 
 pub returns-clause-ok : goal.returns-clause-ok
@@ -10,6 +10,11 @@ returns-clause-ok g c = λ bytes told.
     (c.in_ok-rest.ensures.rest bytes (c.begun_length.ensures.same ∙ synced))
     (omega (arith, c.in_ok-end.ensures.count bytes synced, c.in_ok-end.ensures.fits))
     (sym c.deref.ensures.value ∙ c.in_ok-payloads.ensures.whole) c.in_ok-payloads.ensures.each
+
+pub returns-clause-size : goal.returns-clause-size
+returns-clause-size g c =
+    let whole = ap length (sym c.deref.ensures.value ∙ c.in_ok-payloads.ensures.whole) in
+    omega (arith, length-journal_of c.in_ok-payloads.payloads, whole, c.in_ok-rest.ensures.size)
 
 on_error : {T E : Type 0} (r : Result T E) (P Q : E → Type 0) → ((e : E) → P e → Q e) → IsErrAnd r P → IfErr r Q
 on_error (Ok x) P Q goes is = tt
