@@ -1,0 +1,71 @@
+ghost use Rattle.std.specs.Prelude.{◌≡◌, ◌≢◌, ◌+◌, ◌↔◌, [], length, None, IsTrue, IsNone};
+ghost use Rattle.std.specs.Option.{option_copied};
+ghost use Rattle.gate_machine.specs.History.{moment_of, has_key, is_under, kept_for, MeetsRow, Follows};
+
+use gate_base::Bytes;
+use gate_entries::{Entry, What};
+
+/// The first moment that a clock may give, 2025-09-15T00:00:00Z.
+pub const FIRST_MOMENT: u64 = 1_757_894_400;
+
+/// The last one, 2099-12-31T23:59:59Z.
+pub const LAST_MOMENT: u64 = 4_102_444_799;
+
+/// The moment of the last entry; 0 where there is none.
+pub fn last_moment(history: &[Entry]) -> u64
+    ensures { result ≡ moment_of history.now }
+{
+    match history.last() {
+        Some(entry) => entry.moment.0,
+        None => 0,
+    }
+}
+
+/// The entry under a caller's key.
+pub fn find_kept<'a>(history: &'a [Entry], caller: &Bytes, key: &Bytes) -> Option<&'a Entry>
+    ensures { option_copied result ≡ kept_for caller.now key.now history.now }
+{
+    history.iter().find(|entry| is_under(entry, caller, key))
+}
+
+fn is_under(entry: &Entry, caller: &Bytes, key: &Bytes) -> bool
+    ensures { result ≡ is_under caller.now key.now entry.now }
+{
+    entry.caller == *caller && has_key(&entry.what, key)
+}
+
+fn has_key(what: &What, key: &Bytes) -> bool
+    ensures { result ≡ has_key key.now what.now }
+{
+    match what {
+        What::Settings { .. } => false,
+        What::Order { key: kept, .. } => kept == key,
+    }
+}
+
+/// Whether an entry may come behind these.
+pub fn follows(before: &[Entry], entry: &Entry) -> bool
+    ensures { IsTrue result ↔ Follows before.now entry.now }
+{
+    let moment = entry.moment.0;
+    is_next(before, entry.number)
+        && last_moment(before) <= moment
+        && FIRST_MOMENT <= moment
+        && moment <= LAST_MOMENT
+        && meets_row(before, &entry.caller, &entry.what)
+}
+
+fn is_next(before: &[Entry], number: u64) -> bool
+    ensures { IsTrue result ↔ (number ≡ length before.now + 1) }
+{
+    number.checked_sub(1) == Some(before.len() as u64)
+}
+
+fn meets_row(before: &[Entry], caller: &Bytes, what: &What) -> bool
+    ensures { IsTrue result ↔ MeetsRow before.now caller.now what.now }
+{
+    match what {
+        What::Settings { bytes } => before.is_empty() && caller.is_empty() && bytes.is_empty(),
+        What::Order { key, .. } => !before.is_empty() && find_kept(before, caller, key).is_none(),
+    }
+}

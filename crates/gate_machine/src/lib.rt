@@ -1,0 +1,12 @@
+//! What every gate is held to: which histories are legal, how a command is answered over one, and what a step does.
+//! Beside the definitions stand the plain functions that compute them over a whole list.
+#![tactic(auto)]
+
+mod answer;
+mod following;
+
+pub use answer::{Answer, answer_command};
+pub use following::{find_kept, follows, last_moment};
+
+#[cfg(test)]
+mod tests;
