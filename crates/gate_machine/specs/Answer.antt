@@ -10,7 +10,7 @@ use Rattle.gate_entries.specs.Spelling.{IsEntry}
 use Rattle.gate_entries.specs.Command.{key_of, what_of, entry_for}
 use Rattle.gate_machine.specs.declared.answer.Answer.{Answer}
 use Rattle.gate_machine.specs.declared.answer.Answer.TheVariants.{Say, Write}
-use Rattle.gate_machine.specs.History.{first_moment, last_moment, moment_of, kept_for, record_size, journal_size, most_bytes}
+use Rattle.gate_machine.specs.History.{first_moment, last_moment, moment_of, kept_for, record_size, journal_size, most_bytes, Follows}
 
 pub record IsInRange (reading : ℕ) : Type 0 where
   pub begun : first_moment ≤ reading
@@ -90,7 +90,7 @@ Answers history caller command reading (Say (JournalBad at)) = ⊥
 Answers history caller command reading (Say NoMemory) = ⊥
 Answers history caller command reading (Write entry) = Writes history caller command reading entry
 
--- what is to be written has a spelling
-abbrev pub IsReady : Answer → Type 0
-IsReady (Say reply) = Unit {0}
-IsReady (Write entry) = IsEntry entry
+-- what is to be written has a spelling, and may come behind the history
+abbrev pub IsReady : List Entry → Answer → Type 0
+IsReady history (Say reply) = Unit {0}
+IsReady history (Write entry) = IsEntry entry × Follows history entry

@@ -1,7 +1,7 @@
 ghost use Rattle.std.specs.Prelude.{◌≡◌, ◌+◌, ◌≤◌, ◌↔◌, ◌^◌, ◌<◌, length, IsTrue, IfOk};
 ghost use Rattle.gate_entries.specs.Spelling.{IsEntry};
 ghost use Rattle.gate_entries.specs.Command.{IsCommand, IsCaller};
-ghost use Rattle.gate_machine.specs.History.{journal_size, record_size};
+ghost use Rattle.gate_machine.specs.History.{journal_size, record_size, Legal};
 ghost use Rattle.gate_machine.specs.Answer.{Answers, IsReady, IsKeptReply, IsInRange, IsKept, IsNew, Writes, entry_of_command};
 
 use crate::following::{FIRST_MOMENT, LAST_MOMENT, find_kept, last_moment};
@@ -28,11 +28,12 @@ pub fn answer_command(
     command: &Command,
     reading: u64,
 ) -> Result<Answer, NoMemory>
+    requires legal { Legal history.now }
     requires size { size ≡ journal_size history.now }
     requires caller { IsCaller caller.now }
     requires command { IsCommand command.now }
     ensures answers { IfOk result (Answers history.now caller.now command.now reading) }
-    ensures ready { IfOk result IsReady }
+    ensures ready { IfOk result (IsReady history.now) }
 {
     if !is_in_range(reading) {
         return Ok(Answer::Say(Reply::ClockRange { reading }));
@@ -61,6 +62,7 @@ fn kept_reply(kept: &Entry, command: &Command) -> Reply
 }
 
 /// The answer under a new key.
+#[tactic(auto, using(crate::proofs::Histories::written_follows))]
 fn new_answer(
     alloc: Global,
     history: &[Entry],
@@ -69,13 +71,14 @@ fn new_answer(
     command: &Command,
     reading: u64,
 ) -> Result<Answer, NoMemory>
+    requires legal { Legal history.now }
     requires size { size ≡ journal_size history.now }
     requires caller { IsCaller caller.now }
     requires command { IsCommand command.now }
     requires in_range { IsInRange reading }
     requires new { IsNew history.now caller.now command.now }
     ensures answers { IfOk result (Answers history.now caller.now command.now reading) }
-    ensures ready { IfOk result IsReady }
+    ensures ready { IfOk result (IsReady history.now) }
 {
     let number = history.len() as u64 + 1;
     let moment = Moment(reading.max(last_moment(history)));
