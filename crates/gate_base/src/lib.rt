@@ -14,7 +14,7 @@ mod tables;
 pub use memory::NoMemory;
 pub use moment::Moment;
 pub use name::{Address, Name, Target, Targets};
-pub use plain::Plain;
+pub use plain::{Plain, are_same};
 pub use profile::{KeyKind, Profile, Role, SigAlg};
 pub use seen::{
     CaaAnswer, CaaAnswers, CaaRow, CaaRows, CaaSeen, DnsSeen, Hop, Hops, Method, Seen, WebSeen,

@@ -41,7 +41,7 @@ impl<T: Plain + Drop> Plain for Sequence<T> {
 }
 
 /// Whether two lists are the same.
-fn are_same<T: Plain>(left: &[T], right: &[T]) -> bool
+pub fn are_same<T: Plain>(left: &[T], right: &[T]) -> bool
     ensures { IsTrue result ↔ (left.now ≡ right.now) }
 {
     let mut lefts = left;

@@ -5,6 +5,7 @@ mod caller;
 mod command;
 mod entry;
 mod fault;
+mod plain;
 mod reading;
 mod reply;
 mod writing;

@@ -9,6 +9,7 @@ use Rattle.gate_entries.specs.declared.caller.Caller.{Caller}
 use Rattle.gate_entries.specs.declared.command.Command.{Command}
 use Rattle.gate_entries.specs.declared.command.Command.TheVariants as commands
 use Rattle.gate_entries.specs.declared.entry.Entry.{Entry}
+use Rattle.gate_entries.specs.Spelling.{IsEntry}
 use Rattle.gate_machine.specs.History.{last_moment, moment_of, record_size, journal_size, Follows, EachFollows, Legal}
 use Rattle.gate_machine.specs.Answer.{Writes, entry_of_command}
 
@@ -46,10 +47,11 @@ each_ended before (entry ∷ entries) each ended =
 
 -- what a command writes may come behind a legal history
 pub written_follows : (history : List Entry) (caller : Caller) (command : Command) (reading : ℕ) (entry : Entry) → Legal history
-    → Writes history caller command reading entry → Follows history entry
-written_follows history caller (commands.Order key targets days common request) reading entry legal writes =
+    → Writes history caller command reading entry → IsEntry entry → Follows history entry
+written_follows history caller (commands.Order key targets days common request) reading entry legal writes spelled =
     let ended : moment_of history ≤ last_moment = each_ended [] history legal.each (omega arith) in
     subst (λ (e : Entry). Follows history e) (sym writes.entry_is) (record {
+      spelled = subst IsEntry writes.entry_is spelled;
       numbered = refl;
       later = omega arith;
       begun = omega (arith, writes.in_range.begun);

@@ -6,7 +6,6 @@ use Rattle.gate_entries.specs.declared.command.Command.{Command}
 use Rattle.gate_entries.specs.declared.entry.Entry.{Entry}
 use Rattle.gate_entries.specs.declared.reply.Reply.{Reply}
 use Rattle.gate_entries.specs.declared.reply.Reply.TheVariants.{Placed, KeyReused, ClockRange, Full, ClockFault, DiskFault, JournalBad, NoMemory}
-use Rattle.gate_entries.specs.Spelling.{IsEntry}
 use Rattle.gate_entries.specs.Command.{key_of, what_of, entry_for}
 use Rattle.gate_machine.specs.declared.answer.Answer.{Answer}
 use Rattle.gate_machine.specs.declared.answer.Answer.TheVariants.{Say, Write}
@@ -90,7 +89,7 @@ Answers history caller command reading (Say (JournalBad at)) = ⊥
 Answers history caller command reading (Say NoMemory) = ⊥
 Answers history caller command reading (Write entry) = Writes history caller command reading entry
 
--- what is to be written has a spelling, and may come behind the history
+-- what is to be written may come behind the history
 abbrev pub IsReady : List Entry → Answer → Type 0
 IsReady history (Say reply) = Unit {0}
-IsReady history (Write entry) = IsEntry entry × Follows history entry
+IsReady history (Write entry) = Follows history entry

@@ -5,7 +5,7 @@ use Rattle.std.specs.Cmp.Lexicographic.{pointwise}
 use Rattle.gate_entries.specs.declared.entry.Entry.{Entry}
 use Rattle.gate_entries.specs.declared.entry.What.{What}
 use Rattle.gate_entries.specs.declared.entry.What.TheVariants.{Settings, Order}
-use Rattle.gate_entries.specs.Spelling.{entry_bytes}
+use Rattle.gate_entries.specs.Spelling.{entry_bytes, IsEntry}
 
 -- the first and the last moment that a clock may give: 2025-09-15T00:00:00Z and 2099-12-31T23:59:59Z
 abbrev pub first_moment : ℕ
@@ -42,6 +42,7 @@ MeetsRow before caller (Order key common days targets request) = (before ≢ [])
 
 -- an entry may come behind these
 pub record Follows (before : List Entry) (entry : Entry) : Type 0 where
+  pub spelled : IsEntry entry
   pub numbered : entry.number ≡ length before + 1
   pub later : moment_of before ≤ entry.moment.0
   pub begun : first_moment ≤ entry.moment.0

@@ -1,5 +1,6 @@
 ghost use Rattle.std.specs.Prelude.{◌≡◌, ◌≢◌, ◌+◌, ◌↔◌, [], length, None, IsTrue, IsNone};
 ghost use Rattle.std.specs.Option.{option_copied};
+ghost use Rattle.gate_entries.specs.Spelling.{IsEntry};
 ghost use Rattle.gate_machine.specs.History.{moment_of, has_key, is_under, kept_for, MeetsRow, Follows};
 
 use gate_base::Bytes;
@@ -45,6 +46,7 @@ fn has_key(what: &What, key: &Bytes) -> bool
 
 /// Whether an entry may come behind these.
 pub fn follows(before: &[Entry], entry: &Entry) -> bool
+    requires { IsEntry entry.now }
     ensures { IsTrue result ↔ Follows before.now entry.now }
 {
     let moment = entry.moment.0;

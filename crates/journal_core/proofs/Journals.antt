@@ -1,7 +1,8 @@
 -- Journals as lists: one record more, and where records end.
 use Rattle.std.proofs.Common.{◌≡◌, inl, ⊎_elim, ℕ, ◌+◌, ◌-◌, ◌<◌, ◌≤◌, List, [], ◌∷◌, ◌++◌, length, take, drop, flat_map, Option, Some, None, option_map, refl, sym, ◌∙◌, ap, subst, arith, append_assoc, length-append}
 use Rattle.std.proofs.lemmas.List.{append-nil, append_cancel_left, take-append-drop, take_all, take_at, drop_at}
-use Rattle.std.proofs.lemmas.List.Concat.{flat_map-append}
+use Rattle.std.specs.Prelude.{sum_by}
+use Rattle.std.proofs.lemmas.List.Concat.{flat_map-append, length-flat_map}
 use Rattle.std.proofs.lemmas.Nat.{from_be_bytes-to_be_bytes_4}
 use Rattle.std.proofs.lemmas.Option.{same_Some}
 use Rattle.std.specs.Option.{ForSome}
@@ -46,6 +47,11 @@ journal-push payloads payload =
 
 pub length-record : (payload : List ℕ) → length (record_of payload) ≡ 4 + length payload
 length-record payload = omega arith
+
+pub length-journal_total : (payloads : List (List ℕ)) → length (journal_of payloads) ≡ 16 + sum_by (λ payload. 4 + length payload) payloads
+length-journal_total payloads =
+    length-journal_of payloads ∙ ap (λ (n : ℕ). 16 + n) (length-flat_map record_of payloads)
+    ∙ ap (λ (f : List ℕ → ℕ). 16 + sum_by f payloads) (λ i payload. length-record payload i)
 
 pub length-journal-push : (payloads : List (List ℕ)) (payload : List ℕ) → length (journal_of (payloads ++ payload ∷ [])) ≡ length (journal_of payloads) + (4 + length payload)
 length-journal-push payloads payload =

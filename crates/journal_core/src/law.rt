@@ -1,5 +1,5 @@
 //! What holds of all journals, for the proofs above.
-ghost use Rattle.std.specs.Prelude.{◌≡◌, ℕ, List, ◌+◌, [], ◌∷◌, ◌++◌, length, take};
+ghost use Rattle.std.specs.Prelude.{◌≡◌, ℕ, List, ◌+◌, [], ◌∷◌, ◌++◌, length, sum_by, take};
 ghost use Rattle.journal_core.specs.Journal.{head, IsJournal, BreaksAt, journal_of, record_of};
 
 /// Bytes are a journal in one way at most, and then begin with the head.
@@ -19,4 +19,5 @@ pub fn one_record_more()
     ensures bytes { (payloads : List (List ℕ)) (payload : List ℕ) → journal_of (payloads ++ payload ∷ []) ≡ journal_of payloads ++ record_of payload }
     ensures size { (payloads : List (List ℕ)) (payload : List ℕ) → length (journal_of (payloads ++ payload ∷ [])) ≡ length (journal_of payloads) + (4 + length payload) }
     ensures none { length (journal_of []) ≡ 16 }
+    ensures total { (payloads : List (List ℕ)) → length (journal_of payloads) ≡ 16 + sum_by (λ payload. 4 + length payload) payloads }
 {}

@@ -1,4 +1,4 @@
-use Rattle.journal_core.proofs.Journals.{journal-push, length-journal-push, length-journal_none}
+use Rattle.journal_core.proofs.Journals.{journal-push, length-journal-push, length-journal_none, length-journal_total}
 use Rattle.journal_core.proofs.law.one_record_more.Goals as goal
 
 pub returns-clause-bytes : goal.returns-clause-bytes
@@ -9,3 +9,6 @@ returns-clause-size c = length-journal-push
 
 pub returns-clause-none : goal.returns-clause-none
 returns-clause-none c = length-journal_none
+
+pub returns-clause-total : goal.returns-clause-total
+returns-clause-total c = length-journal_total

@@ -1,0 +1,15 @@
+//! One gate over one journal: it starts from what the disk holds, and answers one command after another.
+#![tactic(auto)]
+
+mod asking;
+mod engine;
+mod fault;
+mod replaying;
+mod starting;
+mod writing;
+
+pub use engine::Engine;
+pub use fault::StartFault;
+
+#[cfg(test)]
+mod tests;

@@ -1,0 +1,76 @@
+//! Entries as plain values.
+
+use crate::entry::{Entry, What};
+use gate_base::{NoMemory, Plain};
+use std::alloc::Global;
+
+impl Plain for What {
+    fn is_same(&self, other: &What) -> bool {
+        match (self, other) {
+            (What::Settings { bytes }, What::Settings { bytes: others }) => bytes.is_same(others),
+            (
+                What::Order {
+                    key,
+                    common,
+                    days,
+                    targets,
+                    request,
+                },
+                What::Order {
+                    key: other_key,
+                    common: other_common,
+                    days: other_days,
+                    targets: other_targets,
+                    request: other_request,
+                },
+            ) => {
+                days == other_days
+                    && common == other_common
+                    && key.is_same(other_key)
+                    && targets.is_same(other_targets)
+                    && request.is_same(other_request)
+            }
+            (What::Settings { .. }, What::Order { .. }) => false,
+            (What::Order { .. }, What::Settings { .. }) => false,
+        }
+    }
+
+    fn copied(&self, alloc: Global) -> Result<What, NoMemory> {
+        match self {
+            What::Settings { bytes } => Ok(What::Settings {
+                bytes: bytes.copied(alloc)?,
+            }),
+            What::Order {
+                key,
+                common,
+                days,
+                targets,
+                request,
+            } => Ok(What::Order {
+                key: key.copied(alloc)?,
+                common: *common,
+                days: *days,
+                targets: targets.copied(alloc)?,
+                request: request.copied(alloc)?,
+            }),
+        }
+    }
+}
+
+impl Plain for Entry {
+    fn is_same(&self, other: &Entry) -> bool {
+        self.number == other.number
+            && self.moment.0 == other.moment.0
+            && self.caller.is_same(&other.caller)
+            && self.what.is_same(&other.what)
+    }
+
+    fn copied(&self, alloc: Global) -> Result<Entry, NoMemory> {
+        Ok(Entry {
+            number: self.number,
+            moment: self.moment,
+            caller: self.caller.copied(alloc)?,
+            what: self.what.copied(alloc)?,
+        })
+    }
+}
