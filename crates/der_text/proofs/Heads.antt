@@ -61,6 +61,23 @@ octets_four n a b c d e some high middle third_low low =
     let fourth : n % 2 ^ 8 ≡ d = omega arith in
     rw (le-ltb n 128 (omega arith), le-ltb n 256 (omega arith), le-ltb n 65536 (omega arith), le-ltb n 16777216 (omega arith), first, second, third, fourth) refl
 
+pub few_octets : (n : ℕ) → length (length_octets n) ≤ 5
+unfolding length_octets
+few_octets n =
+    elim (cases_lt n 128) [
+      | inl a ↦ rw (lt-ltb n 128 a) (omega arith)
+      | inr a ↦ elim (cases_lt n 256) [
+        | inl b ↦ rw (le-ltb n 128 a, lt-ltb n 256 b) (omega arith)
+        | inr b ↦ elim (cases_lt n 65536) [
+          | inl c ↦ rw (le-ltb n 128 a, le-ltb n 256 b, lt-ltb n 65536 c) (omega arith)
+          | inr c ↦ elim (cases_lt n 16777216) [
+            | inl d ↦ rw (le-ltb n 128 a, le-ltb n 256 b, le-ltb n 65536 c, lt-ltb n 16777216 d) (omega arith)
+            | inr d ↦ rw (le-ltb n 128 a, le-ltb n 256 b, le-ltb n 65536 c, le-ltb n 16777216 d) (omega arith)
+          ]
+        ]
+      ]
+    ]
+
 -- ---- what is written is read
 
 -- needed length bytes that are none too many

@@ -1,4 +1,4 @@
--- The first fault of bytes that are no DER tree, and its place.
+-- The first fault of bytes that are no DER tree, and its place: which test of which element is broken first. The sections are those of X.690.
 use Rattle.std.specs.Prelude.{◌≡◌, ◌≢◌, ◌⊎◌, ℕ, zero, suc, ◌<◌, ◌+◌, ◌-◌, ◌*◌, ◌%◌, List, [], ◌∷◌, ◌++◌, length, take, drop, Bool, true, false, Result, Ok, Err, nat_lt, ◌==◌, ◌||◌, if◌then◌else◌}
 use Rattle.der_text.specs.declared.fault.DerKind.{DerKind}
 use Rattle.der_text.specs.declared.fault.DerKind.TheVariants.{Short, LongForm, NotShortest, BadContent, TooDeep, Trailing}
@@ -8,6 +8,7 @@ use Rattle.der_text.specs.declared.fault.ReadFault.TheVariants as faults
 use Rattle.der_text.specs.Content.{is_constructed, keeps_rule}
 use Rattle.der_text.specs.Tree.{Node, Nodes, element, IsElement, spelling, spellings, head_length, IsInForm, AreInForm}
 
+-- a test after another: the first broken one counts
 infixl 10 ◌>>=◌
 abbrev pub ◌>>=◌ : {A B : Type 0} → Result A DerKind → (A → Result B DerKind) → Result B DerKind
 (Ok x) >>= f = f x
@@ -33,14 +34,14 @@ abbrev pub begins_with_zero : List ℕ → Bool
 begins_with_zero [] = false
 begins_with_zero (b ∷ rest) = b == 0
 
--- a long form: its length bytes are there, are needed, and are none too many
+-- a long form (8.1.3.5, 10.1): its length bytes are there, and it has no shorter form
 unfoldable pub long_length : ℕ → List ℕ → Result (ℕ × List ℕ) DerKind
 long_length count bytes =
     if nat_lt (length bytes) count then Err Short else
     if nat_lt (number_of (take count bytes)) 128 || begins_with_zero (take count bytes) then Err NotShortest else
     Ok (number_of (take count bytes), drop count bytes)
 
--- the length at the front: a length byte, below 128 or the number 1 to 4 of further ones with 80 hexadecimal
+-- the length at the front: a length byte that is there, and is below 128 or, with 80 hexadecimal, the number 1 to 4 of further ones
 unfoldable pub length_at : List ℕ → Result (ℕ × List ℕ) DerKind
 length_at [] = Err Short
 length_at (first ∷ rest) =

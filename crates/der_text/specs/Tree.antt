@@ -1,4 +1,4 @@
--- DER trees, how they are spelled, and which of them are in the form (X.690, sections 8.1, 10.1 and 11).
+-- DER trees, how they are spelled, and which of them are in the form. The sections are those of X.690.
 use Rattle.std.specs.Prelude.{◌≡◌, ◌≢◌, ℕ, zero, suc, ◌+◌, ◌<◌, ◌/◌, ◌%◌, ◌^◌, List, [], ◌∷◌, ◌++◌, length, Option, Some, None, option_and_then, true, false, IsTrue, nat_lt, if◌then◌else◌}
 use Rattle.der_text.specs.Content.{is_constructed, keeps_rule}
 
@@ -12,7 +12,7 @@ mutual
     no_nodes : Nodes
     also : Node → Nodes → Nodes
 
--- the shortest length: one byte below 128, or the number of bytes that follow, with 80 hexadecimal, and those bytes
+-- the shortest length (8.1.3, 10.1): one byte below 128, or the number of bytes that follow, with 80 hexadecimal, and those bytes
 unfoldable pub length_octets : ℕ → List ℕ
 length_octets n =
     if nat_lt n 128 then n ∷ [] else if nat_lt n (2 ^ 8) then 129 ∷ n ∷ [] else
@@ -20,7 +20,7 @@ length_octets n =
     if nat_lt n (2 ^ 24) then 131 ∷ n / 2 ^ 16 ∷ (n / 2 ^ 8) % 2 ^ 8 ∷ n % 2 ^ 8 ∷ [] else
     132 ∷ n / 2 ^ 24 ∷ (n / 2 ^ 16) % 2 ^ 8 ∷ (n / 2 ^ 8) % 2 ^ 8 ∷ n % 2 ^ 8 ∷ []
 
--- an element: its tag, the length of its content, and the content
+-- an element (8.1.1): its tag, the length of its content, and the content
 abbrev pub element : ℕ → List ℕ → List ℕ
 element tag content = tag ∷ length_octets (length content) ++ content
 
@@ -43,7 +43,7 @@ abbrev pub content_of : Node → List ℕ
 content_of (primitive tag content) = content
 content_of (constructed tag parts) = spellings parts
 
--- what holds of the tag and the content of each element
+-- what holds of the tag and the content of each element: a tag of one byte (8.1.2), at most four length bytes, the tag's rule
 pub record IsElement (tag : ℕ) (content : List ℕ) : Type 0 where
   pub one_byte_tag : tag % 32 ≢ 31
   pub size : length content < 2 ^ 32

@@ -1,6 +1,6 @@
-ghost use Rattle.std.specs.Prelude.{◌≡◌, ℕ, List, [], ◌++◌};
+ghost use Rattle.std.specs.Prelude.{◌≡◌, ◌≤◌, ℕ, List, [], ◌++◌};
 ghost use Rattle.der_text.specs.declared.fault.DerFault.{DerFault};
-ghost use Rattle.der_text.specs.Tree.{Node, spelling, IsInForm, IsDer};
+ghost use Rattle.der_text.specs.Tree.{Node, head_length, spelling, IsInForm, IsDer};
 ghost use Rattle.der_text.specs.Fault.{IsFirstFault};
 
 /// No spelling of a tree is a prefix of another's: what follows it is nothing, or it is no spelling.
@@ -19,4 +19,9 @@ pub fn what_is_spelled_is_read()
 /// Bytes have one first fault at most.
 pub fn one_first_fault()
     ensures { (bytes : List ℕ) (fault other : DerFault) → IsFirstFault bytes fault → IsFirstFault bytes other → fault ≡ other }
+{}
+
+/// Before a content stand its tag and at most five bytes of length.
+pub fn a_head_is_short()
+    ensures { (content : List ℕ) → head_length content ≤ 6 }
 {}
