@@ -1,4 +1,4 @@
--- What the content of an element may be, by its tag. The sections are those of X.690, whose DER RFC 5280 (4.1) asks for.
+-- What the content of an element may be, by its tag. The sections are those of X.690; RFC 5280 (4.1) asks for its DER.
 use Rattle.std.specs.Prelude.{ℕ, ◌%◌, ◌/◌, ◌^◌, List, [], ◌∷◌, Bool, true, false, not, ◌&&◌, ◌||◌, nat_lt, ◌==◌, if◌then◌else◌}
 
 -- the tag has its constructed bit, the one with the value 20 hexadecimal (8.1.2.5)
@@ -43,7 +43,8 @@ abbrev pub is_object_identifier : List ℕ → Bool
 is_object_identifier [] = false
 is_object_identifier (b ∷ rest) = not (b == 128) && ends_arcs b rest
 
--- the rule of a primitive universal type: 00 is none, and SEQUENCE and SET are constructed (8.9, 8.11); other contents are not judged
+-- The rule of a primitive universal type: 00 is none, and SEQUENCE and SET are constructed (8.9, 8.11).
+-- Other contents are not judged.
 unfoldable pub is_primitive_content : ℕ → List ℕ → Bool
 is_primitive_content tag content =
     if tag == 0 then false else if tag == 1 then is_boolean content else if tag == 2 then is_integer content else
@@ -54,4 +55,5 @@ is_primitive_content tag content =
 -- The contents of other classes, and the order in a SET, are not judged.
 unfoldable pub keeps_rule : ℕ → List ℕ → Bool
 keeps_rule tag content =
-    if nat_lt tag 32 then is_primitive_content tag content else if nat_lt tag 64 then (tag == 48) || (tag == 49) else true
+    if nat_lt tag 32 then is_primitive_content tag content else
+    if nat_lt tag 64 then (tag == 48) || (tag == 49) else true

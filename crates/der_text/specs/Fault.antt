@@ -1,4 +1,5 @@
--- The first fault of bytes that are no DER tree, and its place: which test of which element is broken first. The sections are those of X.690.
+-- The first fault of bytes that are no DER tree, and its place: which test of which element is broken first.
+-- The sections are those of X.690.
 use Rattle.std.specs.Prelude.{◌≡◌, ◌≢◌, ◌⊎◌, ℕ, zero, suc, ◌<◌, ◌+◌, ◌-◌, ◌*◌, ◌%◌, List, [], ◌∷◌, ◌++◌, length, take, drop, Bool, true, false, Result, Ok, Err, nat_lt, ◌==◌, ◌||◌, if◌then◌else◌}
 use Rattle.der_text.specs.declared.fault.DerKind.{DerKind}
 use Rattle.der_text.specs.declared.fault.DerKind.TheVariants.{Short, LongForm, NotShortest, BadContent, TooDeep, Trailing}
@@ -41,7 +42,8 @@ long_length count bytes =
     if nat_lt (number_of (take count bytes)) 128 || begins_with_zero (take count bytes) then Err NotShortest else
     Ok (number_of (take count bytes), drop count bytes)
 
--- the length at the front: a length byte that is there, and is below 128 or, with 80 hexadecimal, the number 1 to 4 of further ones
+-- The length at the front: a length byte that is there, and is below 128 or, with 80 hexadecimal, the number 1 to 4
+-- of further ones.
 unfoldable pub length_at : List ℕ → Result (ℕ × List ℕ) DerKind
 length_at [] = Err Short
 length_at (first ∷ rest) =
@@ -52,10 +54,11 @@ length_at (first ∷ rest) =
 unfoldable pub content_at : ℕ → ℕ → ℕ → List ℕ → Result Front DerKind
 content_at levels tag size rest =
     if nat_lt (length rest) size then Err Short else if levels == 0 then Err TooDeep else
-    if keeps_rule tag (take size rest) then Ok (record { tag = tag; content = take size rest; after = drop size rest }) else Err BadContent
+    if keeps_rule tag (take size rest) then Ok (record { tag = tag; content = take size rest; after = drop size rest })
+    else Err BadContent
 
--- The tests of one element, in their order, where so many levels are left: a tag byte, a tag of one byte, the length, the content.
--- It gives the first broken one, or the element.
+-- The tests of one element, in their order, where so many levels are left: a tag byte, a tag of one byte, the length,
+-- the content. It gives the first broken one, or the element.
 unfoldable pub front_of : ℕ → List ℕ → Result Front DerKind
 front_of levels [] = Err Short
 front_of levels (tag ∷ rest) =
@@ -78,7 +81,8 @@ pub record IsAmong (levels start : ℕ) (content : List ℕ) (HasFault : ℕ →
   pub some : rest ≢ []
   pub fault : HasFault (start + length (spellings before)) rest
 
--- The fault of the element that begins at a place, where so many levels are left: its own, or else that of its first part that has one.
+-- The fault of the element that begins at a place, where so many levels are left: its own, or else that of its first
+-- part that has one.
 unfoldable pub HasFault : ℕ → DerFault → ℕ → List ℕ → Type 0
 HasFault zero fault start bytes = (front_of zero bytes ≡ Err fault.kind) × (fault.place ≡ start)
 HasFault (suc levels) fault start bytes =

@@ -12,7 +12,8 @@ mutual
     no_nodes : Nodes
     also : Node → Nodes → Nodes
 
--- the shortest length (8.1.3, 10.1): one byte below 128, or the number of bytes that follow, with 80 hexadecimal, and those bytes
+-- The shortest length (8.1.3, 10.1): one byte below 128, or the number of bytes that follow, with 80 hexadecimal,
+-- and those bytes.
 unfoldable pub length_octets : ℕ → List ℕ
 length_octets n =
     if nat_lt n 128 then n ∷ [] else if nat_lt n (2 ^ 8) then 129 ∷ n ∷ [] else
@@ -43,7 +44,8 @@ abbrev pub content_of : Node → List ℕ
 content_of (primitive tag content) = content
 content_of (constructed tag parts) = spellings parts
 
--- what holds of the tag and the content of each element: a tag of one byte (8.1.2), at most four length bytes, the tag's rule
+-- What holds of the tag and the content of each element: a tag of one byte (8.1.2), at most four length bytes,
+-- and the tag's rule.
 pub record IsElement (tag : ℕ) (content : List ℕ) : Type 0 where
   pub one_byte_tag : tag % 32 ≢ 31
   pub size : length content < 2 ^ 32
@@ -55,7 +57,8 @@ unfoldable mutual
   IsInForm zero (primitive tag content) = ⊥
   IsInForm zero (constructed tag parts) = ⊥
   IsInForm (suc levels) (primitive tag content) = (is_constructed tag ≡ false) × IsElement tag content
-  IsInForm (suc levels) (constructed tag parts) = (is_constructed tag ≡ true) × IsElement tag (spellings parts) × AreInForm levels parts
+  IsInForm (suc levels) (constructed tag parts) =
+      (is_constructed tag ≡ true) × IsElement tag (spellings parts) × AreInForm levels parts
 
   pub AreInForm : ℕ → Nodes → Type 0
   AreInForm levels no_nodes = Unit {0}

@@ -28,7 +28,9 @@ fn big_endian(bytes: &[u8]) -> usize
 #[tactic(auto, unfolding(crate::specs::Fault::long_length))]
 fn read_long_length(count: usize, bytes: &[u8]) -> Result<(usize, &[u8]), DerKind>
     requires { count ≤ 4 }
-    ensures { MatchResult result (λ x. long_length count bytes.now ≡ Ok (x.0, x.1.now)) (λ kind. long_length count bytes.now ≡ Err kind) }
+    ensures { MatchResult result
+        (λ x. long_length count bytes.now ≡ Ok (x.0, x.1.now))
+        (λ kind. long_length count bytes.now ≡ Err kind) }
 {
     if bytes.len() < count {
         return Err(DerKind::Short);
@@ -43,7 +45,9 @@ fn read_long_length(count: usize, bytes: &[u8]) -> Result<(usize, &[u8]), DerKin
 
 #[tactic(auto, unfolding(crate::specs::Fault::length_at))]
 fn read_length(bytes: &[u8]) -> Result<(usize, &[u8]), DerKind>
-    ensures { MatchResult result (λ x. length_at bytes.now ≡ Ok (x.0, x.1.now)) (λ kind. length_at bytes.now ≡ Err kind) }
+    ensures { MatchResult result
+        (λ x. length_at bytes.now ≡ Ok (x.0, x.1.now))
+        (λ kind. length_at bytes.now ≡ Err kind) }
 {
     match bytes {
         [] => Err(DerKind::Short),
@@ -57,7 +61,9 @@ fn read_length(bytes: &[u8]) -> Result<(usize, &[u8]), DerKind>
 
 #[tactic(auto, unfolding(crate::specs::Fault::content_at))]
 fn read_content(levels: u32, tag: u8, size: usize, bytes: &[u8]) -> Result<Front<'_>, DerKind>
-    ensures { MatchResult result (λ f. content_at levels tag size bytes.now ≡ Ok (front f)) (λ kind. content_at levels tag size bytes.now ≡ Err kind) }
+    ensures { MatchResult result
+        (λ f. content_at levels tag size bytes.now ≡ Ok (front f))
+        (λ kind. content_at levels tag size bytes.now ≡ Err kind) }
 {
     if bytes.len() < size {
         return Err(DerKind::Short);
@@ -78,7 +84,9 @@ fn read_content(levels: u32, tag: u8, size: usize, bytes: &[u8]) -> Result<Front
 
 #[tactic(auto, unfolding(crate::specs::Fault::front_of))]
 fn test_front(levels: u32, bytes: &[u8]) -> Result<Front<'_>, DerKind>
-    ensures { MatchResult result (λ f. front_of levels bytes.now ≡ Ok (front f)) (λ kind. front_of levels bytes.now ≡ Err kind) }
+    ensures { MatchResult result
+        (λ f. front_of levels bytes.now ≡ Ok (front f))
+        (λ kind. front_of levels bytes.now ≡ Err kind) }
 {
     match bytes {
         [] => Err(DerKind::Short),

@@ -5,8 +5,10 @@ ghost use Rattle.der_text.specs.Fault.{IsFirstFault};
 
 /// No spelling of a tree is a prefix of another's: what follows it is nothing, or it is no spelling.
 pub fn no_spelling_is_a_prefix()
-    ensures trees { (tree other : Node) (rest : List ℕ) → IsInForm 32 tree → IsInForm 32 other → spelling tree ≡ spelling other ++ rest → tree ≡ other }
-    ensures rests { (tree other : Node) (rest : List ℕ) → IsInForm 32 tree → IsInForm 32 other → spelling tree ≡ spelling other ++ rest → rest ≡ [] }
+    ensures trees { (tree other : Node) (rest : List ℕ) → IsInForm 32 tree → IsInForm 32 other →
+        spelling tree ≡ spelling other ++ rest → tree ≡ other }
+    ensures rests { (tree other : Node) (rest : List ℕ) → IsInForm 32 tree → IsInForm 32 other →
+        spelling tree ≡ spelling other ++ rest → rest ≡ [] }
 {}
 
 /// What a tree spells is read again, to the same tree: its spelling spells it and no other tree, and has no fault.
@@ -18,7 +20,8 @@ pub fn what_is_spelled_is_read()
 
 /// Bytes have one first fault at most.
 pub fn one_first_fault()
-    ensures { (bytes : List ℕ) (fault other : DerFault) → IsFirstFault bytes fault → IsFirstFault bytes other → fault ≡ other }
+    ensures { (bytes : List ℕ) (fault other : DerFault) →
+        IsFirstFault bytes fault → IsFirstFault bytes other → fault ≡ other }
 {}
 
 /// Before a content stand its tag and at most five bytes of length.
