@@ -1,0 +1,6 @@
+pub mod Heads
+pub mod Trees
+pub mod Readings
+pub mod Views
+pub mod Parts
+pub mod Faults
