@@ -1,7 +1,7 @@
 -- The parts of a text between the places of a byte.
-use Rattle.std.proofs.Common.{◌≡◌, ℕ, ◌+◌, ◌-◌, ◌<◌, ◌≤◌, Bool, true, false, nat_lt, List, [], ◌∷◌, length, take, drop, Some, None, refl, sym, ap, subst, ◌∙◌, inl, inr, lt-ltb, le-ltb, arith}
-use Rattle.std.specs.List.{position, position_or_len, slice_split}
-use Rattle.std.proofs.lemmas.List.{length-drop}
+use Rattle.std.proofs.Common.{◌≡◌, ℕ, ◌+◌, ◌-◌, ◌<◌, ◌≤◌, Bool, true, false, nat_lt, List, [], ◌∷◌, ◌++◌, ◌==◌, if◌then◌else◌, append_assoc, get_or, length, take, drop, Some, None, refl, sym, ap, subst, ◌∙◌, inl, inr, lt-ltb, le-ltb, ne_eqb, arith}
+use Rattle.std.specs.List.{join_with_byte, position, position_or_len, slice_split}
+use Rattle.std.proofs.lemmas.List.{length-drop, length-take-le, take_more}
 use Rattle.std.proofs.Math.Seq.{take-length}
 use Rattle.std.proofs.lemmas.Bool.{cases_lt, cond-true, cond-false}
 use Rattle.std.proofs.lemmas.List.Sums.{fails_before_first}
@@ -29,4 +29,31 @@ slice_split-none p xs missing =
       | inr past ↦ slice_split_none p xs (λ k d below. fails_before_first p xs k d (omega arith))
     ]
 
-pub ruleset cuts = (slice_split-some, slice_split-none)
+regroup : (x joined part : List ℕ) (byte : ℕ) → x ++ byte ∷ (joined ++ (byte ∷ []) ++ part) ≡ (x ++ byte ∷ joined) ++ (byte ∷ []) ++ part
+regroup x joined part byte = simp append_assoc
+
+-- what goes between some parts and one more
+abbrev separator : ℕ → List (List ℕ) → List ℕ
+separator byte [] = []
+separator byte (x ∷ parts) = byte ∷ []
+
+separator-at : (byte at : ℕ) (parts : List (List ℕ)) → length parts ≡ at → separator byte parts ≡ (if at == 0 then [] else byte ∷ [])
+separator-at byte at [] count = ap (λ n. if n == 0 then [] else byte ∷ []) count
+separator-at byte at (x ∷ parts) count = sym (cond-false (at == 0) [] (byte ∷ []) (ne_eqb at 0 (λ zero. absurd (omega arith))))
+
+-- one more part at the end
+join_with_byte-push : (byte : ℕ) (parts : List (List ℕ)) (part : List ℕ) → join_with_byte byte (parts ++ part ∷ []) ≡ join_with_byte byte parts ++ separator byte parts ++ part
+join_with_byte-push byte [] part = refl
+join_with_byte-push byte (x ∷ []) part = sym (append_assoc x (byte ∷ []) part)
+join_with_byte-push byte (x ∷ y ∷ parts) part =
+    ap (λ text. x ++ byte ∷ text) (join_with_byte-push byte (y ∷ parts) part) ∙ regroup x (join_with_byte byte (y ∷ parts)) part byte
+
+-- the parts before a place, and the part at it
+pub join_with_byte-more : (byte at : ℕ) (parts : List (List ℕ)) (part before after : List ℕ) → at < length parts → part ≡ get_or parts at part → before ≡ join_with_byte byte (take at parts) → after ≡ before ++ (if at == 0 then [] else byte ∷ []) ++ part → after ≡ join_with_byte byte (take (at + 1) parts)
+join_with_byte-more byte at parts part before after within is joined longer =
+    let count : length (take at parts) ≡ at = length-take-le at parts (omega arith) in
+    let more : take (at + 1) parts ≡ take at parts ++ part ∷ [] = take_more parts at part within ∙ ap (λ x. take at parts ++ x ∷ []) (sym is) in
+    longer ∙ ap (λ text. text ++ (if at == 0 then [] else byte ∷ []) ++ part) joined
+    ∙ ap (λ between. join_with_byte byte (take at parts) ++ between ++ part) (sym (separator-at byte at (take at parts) count))
+    ∙ sym (join_with_byte-push byte (take at parts) part)
+    ∙ ap (join_with_byte byte) (sym more)
