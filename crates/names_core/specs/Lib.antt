@@ -1,4 +1,5 @@
 pub mod Address
+pub mod Index
 pub mod Label
 pub mod Name
 pub mod Reserved

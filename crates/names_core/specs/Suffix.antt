@@ -104,12 +104,10 @@ is_exception Plain = false
 
 -- the labels are the rule's, one for one, where `*` stands for any one label
 abbrev pub is_of_kind : RuleKind → List (List ℕ) → List (List ℕ) → Bool
-is_of_kind Plain labels [] = labels_eq labels []
-is_of_kind Plain labels (first ∷ tail) = labels_eq labels (first ∷ tail)
-is_of_kind Exception labels [] = labels_eq labels []
-is_of_kind Exception labels (first ∷ tail) = labels_eq labels (first ∷ tail)
+is_of_kind Plain labels tail = labels_eq tail labels
+is_of_kind Exception labels tail = labels_eq tail labels
 is_of_kind Wild labels [] = false
-is_of_kind Wild labels (first ∷ tail) = labels_eq labels tail
+is_of_kind Wild labels (first ∷ tail) = labels_eq tail labels
 
 abbrev pub covers : List (List ℕ) → Rule → Bool
 covers tail rule = is_of_kind rule.kind rule.labels tail
