@@ -1,5 +1,5 @@
 -- What is known of a text where a name is read from it, and where a fault is told.
-use Rattle.std.proofs.Common.{◌≡◌, ℕ, ◌<◌, ◌≤◌, ◌⊎◌, Bool, true, false, List, [], ◌∷◌, length, Option, Some, None, Result, Ok, Err, IfOk, refl, sym, ap, subst, ◌∙◌, inl, inr, lit≤, arith}
+use Rattle.std.proofs.Common.{◌≡◌, ℕ, ◌<◌, ◌≤◌, ◌⊎◌, Bool, true, false, List, [], ◌∷◌, Option, Some, None, Result, Ok, Err, IfOk, refl, sym, subst, ◌∙◌, inl, inr, lit≤, arith}
 use Rattle.std.specs.List.{find, AllByRecursion}
 use Rattle.std.proofs.lemmas.Bool.{cases_Bool, cond-true, cond-false}
 use Rattle.std.proofs.lemmas.Option.{none-some, same_Some}
@@ -8,7 +8,7 @@ use Rattle.names_core.specs.declared.fault.NameRead.{NameRead}
 use Rattle.names_core.specs.declared.fault.NameRead.TheVariants.{Fault, NoMemory}
 use Rattle.names_core.specs.declared.fault.NameFault.{NameFault}
 use Rattle.names_core.specs.declared.fault.NameFault.TheVariants.{Empty, LongLabel, LongName, BadByte, BadHyphen, BadPunycode, BadStar, BadAddress}
-use Rattle.names_core.specs.Name.{labels_of, is_wild, breaks, number_of, faults, first_fault, IsFaultOf, IsNameOf, name_of, unless, name_read, Gives}
+use Rattle.names_core.specs.Name.{breaks, number_of, faults, first_fault, IsFaultOf, IsNameOf, name_of, unless, name_read, Gives}
 
 fails_all : (test : NameFault → Bool) (list : List NameFault) → find test list ≡ None → AllByRecursion (λ fault. test fault ≡ false) list
 fails_all test [] none = tt

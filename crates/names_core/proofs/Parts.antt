@@ -1,5 +1,5 @@
 -- The parts of a text between the places of a byte.
-use Rattle.std.proofs.Common.{◌≡◌, ℕ, ◌+◌, ◌-◌, ◌<◌, ◌≤◌, Bool, true, false, nat_lt, List, [], ◌∷◌, ◌++◌, ◌==◌, if◌then◌else◌, append_assoc, get_or, length, take, drop, Some, None, refl, sym, ap, subst, ◌∙◌, inl, inr, lt-ltb, le-ltb, ne_eqb, arith}
+use Rattle.std.proofs.Common.{◌≡◌, ℕ, ◌+◌, ◌-◌, ◌<◌, Bool, List, [], ◌∷◌, ◌++◌, ◌==◌, if◌then◌else◌, append_assoc, get_or, length, take, drop, Some, None, refl, sym, ap, subst, ◌∙◌, inl, inr, lt-ltb, le-ltb, ne_eqb, arith}
 use Rattle.std.specs.List.{join_with_byte, position, position_or_len, slice_split}
 use Rattle.std.proofs.lemmas.List.{length-drop, length-take-le, take_more}
 use Rattle.std.proofs.Math.Seq.{take-length}

@@ -10,7 +10,7 @@ use Rattle.gate_base.specs.declared.name.Target.TheVariants.{Dns, Ip}
 use Rattle.names_core.specs.declared.fault.NameFault.{NameFault}
 use Rattle.names_core.specs.declared.fault.NameFault.TheVariants.{BadAddress}
 use Rattle.names_core.specs.Address.{v4_of, v4_text, v6_of, v6_text}
-use Rattle.names_core.specs.Name.{is_full_stop, name_read}
+use Rattle.names_core.specs.Name.{in_lower_case, is_full_stop, name_read}
 
 -- a text with a colon is meant as an IPv6 address
 abbrev pub has_colon : List ℕ → Bool
@@ -54,3 +54,8 @@ address_text (V6 octets) = v6_text octets
 abbrev pub target_text : Target → List ℕ
 target_text (Dns name) = name_text name
 target_text (Ip address) = address_text address
+
+-- a name's text is what was read, in lower case, and an address has no other text
+abbrev pub IsWritten : List ℕ → Target → Type 0
+IsWritten text (Dns name) = name_text name ≡ in_lower_case text
+IsWritten text (Ip address) = address_text address ≡ text

@@ -13,7 +13,7 @@ use gate_base::{Labels, NoMemory, Sequence};
 use idna::{AsciiDenyList, Errors, domain_to_ascii_cow};
 use std::alloc::Global;
 
-const RULE_LIMIT: u64 = 16_384;
+pub const RULE_LIMIT: u64 = 16_384;
 
 fn is_blank(byte: u8) -> bool
     ensures { result ≡ spec.is_blank byte }
@@ -147,7 +147,8 @@ fn rule_count(text: &[u8]) -> u64
 
 /// The rules of a text, in its order.
 pub fn read_rules(alloc: Global, text: &[u8]) -> Result<Sequence<Rule>, SuffixFault>
-    ensures { spec.GivesRules result (spec.rules_read text.now) }
+    ensures exact { spec.GivesRules result (spec.rules_read text.now) }
+    ensures many { RULE_LIMIT < spec.rule_count text.now → result ≡ Err SuffixFault.TooMany }
 {
     if rule_count(text) > RULE_LIMIT {
         return Err(SuffixFault::TooMany);

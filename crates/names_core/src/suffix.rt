@@ -1,9 +1,9 @@
-ghost use Rattle.std.specs.Prelude.{◌≡◌, ◌&&◌, not};
+ghost use Rattle.std.specs.Prelude.{◌≡◌, ◌<◌, ◌&&◌, not};
 ghost use Rattle.std.specs.List.{list_any};
-ghost use Rattle.names_core.specs.Suffix.{GivesRules, base_len, covers, is_exception, longest_exception, longest_ordinary, rules_read, suffix_len};
+ghost use Rattle.names_core.specs.Suffix.{GivesRules, base_len, covers, is_exception, longest_exception, longest_ordinary, rule_count, rules_read, suffix_len};
 
 use crate::index::Index;
-use crate::listing::read_rules;
+use crate::listing::{RULE_LIMIT, read_rules};
 use crate::rule::{Rule, RuleKind, SuffixFault};
 use gate_base::{Bytes, Name, Sequence};
 use std::alloc::Global;
@@ -32,7 +32,9 @@ impl Model for Suffixes {
 impl Suffixes {
     /// The rules of a text: each on a line of its own, up to the first blank.
     pub fn from_rules(alloc: Global, text: &[u8]) -> Result<Suffixes, SuffixFault>
+        // The rules in the order of their lines, or the first line that is none.
         ensures exact { GivesRules result (rules_read text.now) }
+        ensures many { RULE_LIMIT < rule_count text.now → result ≡ Err SuffixFault.TooMany }
     {
         let rules = read_rules(alloc, text)?;
         let listed = Snapshot::of(&rules);

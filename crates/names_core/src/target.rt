@@ -3,7 +3,7 @@ ghost use Rattle.std.specs.List.{after_last, list_all};
 ghost use Rattle.std.specs.Char.{is_ascii_digit};
 ghost use Rattle.names_core.specs.Name.{Gives, is_full_stop};
 ghost use Rattle.names_core.specs.Target as spec;
-ghost use Rattle.names_core.specs.Target.{target_read};
+ghost use Rattle.names_core.specs.Target.{IsTarget, IsWritten, target_read};
 
 use crate::address::{v4_of, v4_text, v6_of, v6_text};
 use crate::cutting::{append, joined};
@@ -43,10 +43,8 @@ fn is_number(label: &[u8]) -> bool
     }
 }
 
-/// The target that a text writes: an IPv6 address where it has a colon, an IPv4 address where its last
-/// label is a number, and else a name.
-pub fn read_target(alloc: Global, text: &[u8]) -> Result<Target, NameRead>
-    ensures exact { Gives result (target_read text.now) }
+fn target_of(alloc: Global, text: &[u8]) -> Result<Target, NameRead>
+    ensures { Gives result (target_read text.now) }
 {
     if has_colon(text) {
         return match v6_of(alloc, text)? {
@@ -61,6 +59,16 @@ pub fn read_target(alloc: Global, text: &[u8]) -> Result<Target, NameRead>
         };
     }
     Ok(Target::Dns(read_name(alloc, text)?))
+}
+
+/// The target that a text writes: an IPv6 address where it has a colon, an IPv4 address where its last
+/// label is a number, and else a name.
+pub fn read_target(alloc: Global, text: &[u8]) -> Result<Target, NameRead>
+    // The target of a text that is well formed, and otherwise the first of its faults.
+    ensures exact { Gives result (target_read text.now) }
+    ensures written { IfOk result (λ target. IsWritten text.now target) }
+{
+    target_of(alloc, text)
 }
 
 fn name_text(alloc: Global, name: &Name) -> Result<Vec<u8>, NoMemory>
@@ -89,6 +97,8 @@ fn text_of(alloc: Global, t: &Target) -> Result<Vec<u8>, NoMemory>
 pub fn target_text(t: &Target, out: &mut Vec<u8>) -> Result<(), NoMemory>
     ensures ok { OnOk result (out.new.items ≡ out.old.items ++ spec.target_text t.now) }
     ensures err { OnErr result (out.new.items ≡ out.old.items) }
+    // The text of a target that was read is read to it again.
+    ensures again { IsTarget t.now → target_read (spec.target_text t.now) ≡ Ok t.now }
 {
     let text = text_of(*out.allocator(), t)?;
     append(out, text.as_slice())

@@ -1,6 +1,5 @@
 use Rattle.std.proofs.Common.{◌≡◌, ◌+◌, ◌≤◌, length}
-use Rattle.std.specs.List.{count_by}
-use Rattle.names_core.specs.Suffix.{is_rule_text, lines_of, rule_count, rule_text}
+use Rattle.names_core.specs.Suffix.{rule_count}
 use Rattle.names_core.proofs.listing.rule_count.Given as goal
 
 abbrev pub invariant-loop-line : goal.invariant-loop-line
