@@ -1,12 +1,12 @@
 -- Labels of letters, digits, hyphens and asterisks: they are ASCII in lower case, where what decodes encodes to itself.
-use Rattle.std.proofs.Common.{◌≡◌, ℕ, ◌<◌, Bool, true, false, not, List, length, get_or, take, drop, Some, None, All, sym, ap, ◌∙◌, inl, inr, lit<, arith}
+use Rattle.std.proofs.Common.{◌≡◌, ℕ, ◌<◌, Bool, true, false, not, List, length, get_or, Some, All, ap, ◌∙◌, inl, inr, lit<, arith}
 use Rattle.std.specs.Char.{is_ascii_uppercase}
 use Rattle.std.specs.List.{list_any}
 use Rattle.std.specs.Str.{IsAscii}
-use Rattle.std.proofs.lemmas.Bool.{both_ways, cases_lt, false_from_ne_true, or_parts}
+use Rattle.std.proofs.lemmas.Bool.{both_ways, cases_lt, false_from_ne_true}
 use Rattle.std.proofs.lemmas.Bool.Decides.{nat_tests}
-use Rattle.std.proofs.lemmas.List.{get_or_past, take-append-drop}
-use Rattle.std.proofs.lemmas.List.Folds.{list_any_at, list_any-append}
+use Rattle.std.proofs.lemmas.List.{get_or_past}
+use Rattle.std.proofs.lemmas.List.Folds.{list_any_at}
 use Rattle.std.proofs.lemmas.Slice.Eq.{bytes_eq-Decides}
 use Rattle.idna.specs.Punycode.{decode, encode}
 use Rattle.idna.proofs.PunycodeCanonical.{encode-decode}
@@ -15,10 +15,6 @@ use Rattle.names_core.specs.Label.{is_label_byte, has_bad_byte, encodes_to, is_p
 -- where no element passes, each fails
 pub fails_each : {X : Type 0} (p : X → Bool) (xs : List X) → list_any p xs ≡ false → All (λ x. p x ≡ false) xs
 fails_each p xs none k d within = false_from_ne_true _ (λ passes. both_ways _ none (list_any_at p xs k d within passes))
-
-pub list_any-drop : {X : Type 0} (p : X → Bool) (xs : List X) (n : ℕ) → list_any p xs ≡ false → list_any p (drop n xs) ≡ false
-list_any-drop p xs n none =
-    (or_parts _ _ (sym (list_any-append p (take n xs) (drop n xs)) ∙ ap (list_any p) (take-append-drop n xs) ∙ none)).1
 
 below_128 : (byte : ℕ) → not (is_label_byte byte) ≡ false → byte < 128
 below_128 byte plain = grind (arith, nat_tests)
@@ -37,10 +33,3 @@ pub is_punycode-decoded : (text points : List ℕ) → has_bad_byte text ≡ fal
 is_punycode-decoded text points plain decoded =
     ap (encodes_to text) decoded
     ∙ (bytes_eq-Decides (encode points) text).1 (encode-decode text points (λ k d within. not_uppercase (get_or text k d) (fails_each _ text plain k d within)) decoded)
-
-pub is_punycode-undecoded : (text : List ℕ) → decode text ≡ None → is_punycode text ≡ false
-is_punycode-undecoded text undecoded = ap (encodes_to text) undecoded
-
--- of what the labels are, one label is
-pub fails_at : {X : Type 0} (p : X → Bool) (xs : List X) (k : ℕ) (x : X) → list_any p xs ≡ false → k < length xs → x ≡ get_or xs k x → p x ≡ false
-fails_at p xs k x none within is = ap p is ∙ fails_each p xs none k x within

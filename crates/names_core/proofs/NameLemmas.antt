@@ -8,7 +8,7 @@ use Rattle.names_core.specs.declared.fault.NameRead.{NameRead}
 use Rattle.names_core.specs.declared.fault.NameRead.TheVariants.{Fault, NoMemory}
 use Rattle.names_core.specs.declared.fault.NameFault.{NameFault}
 use Rattle.names_core.specs.declared.fault.NameFault.TheVariants.{Empty, LongLabel, LongName, BadByte, BadHyphen, BadPunycode, BadStar, BadAddress}
-use Rattle.names_core.specs.Name.{breaks, number_of, faults, first_fault, IsFaultOf, IsNameOf, name_of, unless, name_read, Gives}
+use Rattle.names_core.specs.Name.{breaks, number_of, faults, first_fault, IsFaultOf, IsName, IsNameOf, name_of, unless, name_read, Gives}
 
 fails_all : (test : NameFault → Bool) (list : List NameFault) → find test list ≡ None → AllByRecursion (λ fault. test fault ≡ false) list
 fails_all test [] none = tt
@@ -120,3 +120,7 @@ told text NoMemory value gives same = absurd (cc)
 pub IsFaultOf-Gives : (text : List ℕ) (result : Result Name NameRead) → Gives result (name_read text) → (value : NameFault) → result ≡ Err (Fault value) → IsFaultOf text value
 IsFaultOf-Gives text (Ok read) gives value same = absurd (cc)
 IsFaultOf-Gives text (Err error) gives value same = told text error value gives (cc)
+
+pub IsName-Gives : (text : List ℕ) (result : Result Name NameRead) → Gives result (name_read text) → IfOk result (λ value. IsName value)
+IsName-Gives text (Ok value) gives = (text, gives)
+IsName-Gives text (Err error) gives = tt

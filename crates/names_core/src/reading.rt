@@ -1,7 +1,7 @@
 ghost use Rattle.std.specs.Prelude.{◌≡◌, false, map, IfOk};
 ghost use Rattle.std.specs.List.{list_any, slice_split};
 ghost use Rattle.names_core.specs.Label as rules;
-ghost use Rattle.names_core.specs.Name.{Gives, IsFaultOf, IsNameOf, first_broken, in_lower_case, is_full_stop, name_read};
+ghost use Rattle.names_core.specs.Name.{Gives, IsFaultOf, IsName, IsNameOf, first_broken, in_lower_case, is_full_stop, name_read};
 
 use crate::cutting::cut_at;
 use crate::fault::{NameFault, NameRead};
@@ -123,6 +123,7 @@ pub fn read_name(alloc: Global, text: &[u8]) -> Result<Name, NameRead>
     // The name of a text that breaks no rule, and otherwise the first of its faults.
     ensures exact { Gives result (name_read text.now) }
     ensures name { IfOk result (λ name. IsNameOf text.now name) }
+    ensures named { IfOk result (λ name. IsName name) }
     ensures fault { (fault : NameFault) → result ≡ Err (NameRead.Fault fault) → IsFaultOf text.now fault }
 {
     name_of(alloc, text)
