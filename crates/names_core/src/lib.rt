@@ -1,0 +1,24 @@
+//! Names and addresses as text, the suffixes under which names are registered, and the addresses that are reserved.
+#![tactic(auto)]
+
+mod address;
+mod cutting;
+mod fault;
+mod index;
+mod label;
+mod listing;
+mod reading;
+mod reserved;
+mod rule;
+mod suffix;
+mod target;
+
+pub use fault::{NameFault, NameRead};
+pub use reading::read_name;
+pub use reserved::is_reserved;
+pub use rule::{Rule, RuleKind, SuffixFault};
+pub use suffix::Suffixes;
+pub use target::{read_target, target_text};
+
+#[cfg(test)]
+mod tests;
