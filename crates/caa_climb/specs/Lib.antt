@@ -1,0 +1,4 @@
+pub mod Climb
+pub mod IssueValue
+pub mod Permission
+pub mod Reading
