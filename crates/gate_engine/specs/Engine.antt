@@ -2,6 +2,10 @@
 use Rattle.std.specs.Prelude.{◌≡◌, ℕ, List, ◌++◌, map, Option, None, is_some, IfSome, Result, Ok, Err}
 use Rattle.plant.specs.Plant.{PlantTold}
 use Rattle.plant.specs.Clock.{ClockTold}
+use Rattle.journal_core.specs.declared.fault.MountFault.{MountFault}
+use Rattle.journal_core.specs.declared.fault.MountFault.TheVariants as mounts
+use Rattle.gate_engine.specs.declared.fault.StartFault.{StartFault}
+use Rattle.gate_engine.specs.declared.fault.StartFault.TheVariants as starts
 use Rattle.journal_core.specs.Journal.{StandsFor, JournalState}
 use Rattle.gate_entries.specs.declared.entry.Entry.{Entry}
 use Rattle.gate_entries.specs.Spelling.{entry_bytes}
@@ -25,3 +29,11 @@ StandsForPlant held told = held.loose ≡ None → StandsFor (payloads_of held.h
 
 abbrev pub state_of : Held → PlantTold → ClockTold → State
 state_of held told clock = record { held = held; disk_faults = told.disk_faults; clock = clock }
+
+-- what a fault of the mount is for a start
+abbrev pub IsStartFault : MountFault → StartFault → Type 0
+IsStartFault mounts.NotBegun fault = fault ≡ starts.NotBegun
+IsStartFault (mounts.BadHead at) fault = fault ≡ starts.JournalBad at
+IsStartFault (mounts.TooLong count) fault = fault ≡ starts.JournalBad 67108864
+IsStartFault mounts.Disk fault = fault ≡ starts.Disk
+IsStartFault mounts.NoMemory fault = fault ≡ starts.NoMemory

@@ -1,16 +1,19 @@
 //! How an entry is committed.
-ghost use Rattle.std.specs.Prelude.{◌≡◌, ◌+◌, ◌≤◌, ℕ, List, [], ◌∷◌, ◌++◌, true, false, length, IfOk, OnOk, OnErr, IsErrOf};
+ghost use Rattle.std.specs.Prelude.{◌≡◌, ◌+◌, ◌≤◌, ℕ, List, None, [], ◌∷◌, ◌++◌, true, false, length, IfOk, OnOk, OnErr, IsErrOf};
 ghost use Rattle.std.specs.Option.{ForSome};
 ghost use Rattle.plant.specs.Causes.{Rose, HasCause};
 ghost use Rattle.plant.specs.Plant.{LeavesSigner};
 ghost use Rattle.journal_core.specs.Journal.{StandsFor};
 ghost use Rattle.gate_entries.specs.Spelling.{entry_bytes, IsEntry};
-ghost use Rattle.gate_machine.specs.History.{record_size};
+ghost use Rattle.gate_machine.specs.History.{Follows, journal_size, record_size};
+ghost use Rattle.gate_engine.specs.Engine.{StandsForPlant};
 
+use crate::engine::Engine;
 use crate::fault::WriteFault;
 use gate_base::NoMemory;
-use gate_entries::{Entry, write_entry};
-use journal_core::{AppendDisk, Journal};
+use gate_entries::{Entry, Reply, write_entry};
+use gate_machine::one_entry_more;
+use journal_core::{AppendDisk, Journal, one_record_more};
 use plant::Plant;
 use std::alloc::Global;
 
@@ -29,7 +32,12 @@ fn spell(alloc: Global, journal: &mut Journal, entry: &Entry) -> Result<Vec<u8>,
 }
 
 /// Appends an entry's record to the journal.
-pub fn append_entry<P: Plant>(alloc: Global, journal: &mut Journal, plant: &mut P, entry: &Entry) -> Result<(), WriteFault>
+pub fn append_entry<P: Plant>(
+    alloc: Global,
+    journal: &mut Journal,
+    plant: &mut P,
+    entry: &Entry,
+) -> Result<(), WriteFault>
     requires spelled { IsEntry entry.now }
     requires sound { journal.old.broken ≡ false }
     requires end { ForSome (P.told plant.old).bytes (λ bytes. length bytes ≡ journal.old.end) }
@@ -50,5 +58,36 @@ pub fn append_entry<P: Plant>(alloc: Global, journal: &mut Journal, plant: &mut 
     match journal.append(plant, &payload) {
         Ok(()) => Ok(()),
         Err(AppendDisk) => Err(WriteFault::Disk),
+    }
+}
+
+impl Engine {
+    /// Commits an entry; where the disk fails it is loose.
+    pub(crate) fn write<P: Plant>(&mut self, plant: &mut P, entry: Entry) -> Reply
+        requires settled { self.old.loose ≡ None }
+        requires stands { StandsForPlant self.old (P.told plant.old) }
+        requires follows { Follows self.old.history entry }
+        requires room { journal_size self.old.history + record_size entry ≤ 67_108_864 }
+        ensures stands { StandsForPlant self.new (P.told plant.new) }
+        ensures signer { LeavesSigner (P.told plant.old) (P.told plant.new) }
+        ensures later { (P.told plant.old).disk_faults ≤ (P.told plant.new).disk_faults }
+    {
+        one_record_more();
+        one_entry_more();
+        let order = entry.number;
+        if self.history.reserve(1).is_err() {
+            return Reply::NoMemory;
+        }
+        match append_entry(self.alloc, &mut self.journal, plant, &entry) {
+            Ok(()) => match self.history.push(entry) {
+                Ok(()) => Reply::Placed { order },
+                Err(_) => unreachable!(),
+            },
+            Err(WriteFault::Disk) => {
+                self.loose = Some(entry);
+                Reply::DiskFault
+            }
+            Err(WriteFault::NoMemory) => Reply::NoMemory,
+        }
     }
 }

@@ -136,7 +136,7 @@ caller_again caller (Order key common days targets request) rest fits from =
     (counted_again w16 (2 ^ 16) wide16 caller rest fits) refl
 
 fields_again : (entry : Entry) → IsEntry entry → HasLabels entry.what → fields_at (entry_bytes entry) ≡ Ok (entry, [])
-unfolding fields_at
+unfolding fields_at entry_bytes
 fields_again entry is some =
     let what = entry.what in
     let r4 = what_bytes what ++ [] in

@@ -115,6 +115,7 @@ same_entry : (n1 n2 m1 m2 : ℕ) (c1 c2 : List ℕ) (w1 w2 : What) → n1 ≡ n2
 same_entry n1 n2 m1 m2 c1 c2 w1 w2 n m c w = rw (n, m, c, w) refl
 
 pub one_entry : (left right : Entry) → IsEntry left → IsEntry right → entry_bytes left ≡ entry_bytes right → left ≡ right
+unfolding entry_bytes
 one_entry left right is1 is2 same =
     let n1 = to_be_bytes w64 left.number in
     let n2 = to_be_bytes w64 right.number in

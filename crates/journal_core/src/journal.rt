@@ -63,6 +63,13 @@ impl Journal {
         Ok((journal, payloads))
     }
 
+    /// The file's length.
+    pub fn end(&self) -> u64
+        ensures { result ≡ self.now.end }
+    {
+        self.end
+    }
+
     /// Whether so many bytes more fit in the file.
     pub fn has_room(&self, total: u64) -> bool
         ensures { IsTrue result ↔ (self.now.end + total ≤ MAX_BYTES) }

@@ -1,0 +1,168 @@
+//! How a command is asked.
+ghost use Rattle.std.specs.Prelude.{◌≡◌, ◌≢◌, ◌≤◌, ◌↔◌, ◌⊎◌, ◌++◌, None, OnOk, OnErr, IfOk, IsTrue, option_to_list};
+ghost use Rattle.plant.specs.Plant.{LeavesSigner};
+ghost use Rattle.gate_entries.specs.Command.{IsCommand, IsCaller};
+ghost use Rattle.gate_machine.specs.History.{Follows};
+ghost use Rattle.gate_machine.specs.Answer.{Answers, IsReady};
+ghost use Rattle.gate_engine.specs.Engine.{StandsForPlant};
+
+use crate::engine::Engine;
+use crate::fault::{StartFault, WriteFault};
+use crate::starting::open;
+use crate::writing::append_entry;
+use gate_base::{NoMemory, Plain, are_same};
+use gate_entries::{Caller, Command, Entry, Reply};
+use gate_machine::{Answer, answer_command};
+use plant::{Clock, Entropy, Plant};
+
+/// Where the first record lies.
+const FIRST_RECORD: u64 = 16;
+
+impl Engine {
+    /// Answers one command. Where an entry is loose, since its commit failed, the journal is mounted again first.
+    pub fn ask<P: Plant, C: Clock, E: Entropy>(
+        &mut self,
+        plant: &mut P,
+        clock: &mut C,
+        _entropy: &mut E,
+        caller: &Caller,
+        command: &Command,
+    ) -> Reply
+        requires stands { StandsForPlant self.old (P.told plant.old) }
+        requires caller { IsCaller caller.now }
+        requires command { IsCommand command.now }
+        ensures stands { StandsForPlant self.new (P.told plant.new) }
+        ensures signer { LeavesSigner (P.told plant.old) (P.told plant.new) }
+        ensures later { (P.told plant.old).disk_faults ≤ (P.told plant.new).disk_faults }
+        ensures entropy { E.told _entropy.new ≡ E.told _entropy.old }
+    {
+        match self.settle(plant) {
+            Ok(()) => self.ask_settled(plant, clock, caller, command),
+            Err(reply) => reply,
+        }
+    }
+
+    /// Mounts the journal again, where an entry is loose.
+    fn settle<P: Plant>(&mut self, plant: &mut P) -> Result<(), Reply>
+        requires { StandsForPlant self.old (P.told plant.old) }
+        ensures settled { OnOk result (self.new.loose ≡ None) }
+        ensures stands { StandsForPlant self.new (P.told plant.new) }
+        ensures signer { LeavesSigner (P.told plant.old) (P.told plant.new) }
+        ensures later { (P.told plant.old).disk_faults ≤ (P.told plant.new).disk_faults }
+    {
+        if self.is_settled() {
+            return Ok(());
+        }
+        self.remount(plant)
+    }
+
+    fn is_settled(&self) -> bool
+        ensures { IsTrue result ↔ (self.now.loose ≡ None) }
+    {
+        self.loose.is_none()
+    }
+
+    /// Takes up the journal that the disk holds, where it is the history's, or the history's with the loose entry.
+    fn remount<P: Plant>(&mut self, plant: &mut P) -> Result<(), Reply>
+        requires { self.old.loose ≢ None }
+        ensures settled { OnOk result (self.new.loose ≡ None) }
+        ensures kept { OnErr result (self.new ≡ self.old) }
+        ensures stands { StandsForPlant self.new (P.told plant.new) }
+        ensures signer { LeavesSigner (P.told plant.old) (P.told plant.new) }
+        ensures later { (P.told plant.old).disk_faults ≤ (P.told plant.new).disk_faults }
+    {
+        match open(self.alloc, plant) {
+            Ok(found) => {
+                if !self.may_become(&found) {
+                    return Err(Reply::JournalBad { at: FIRST_RECORD });
+                }
+                *self = found;
+                Ok(())
+            }
+            Err(StartFault::Disk) => Err(Reply::DiskFault),
+            Err(StartFault::NotBegun) => Err(Reply::JournalBad { at: 0 }),
+            Err(StartFault::JournalBad { at }) => Err(Reply::JournalBad { at }),
+            Err(StartFault::NoMemory) => Err(Reply::NoMemory),
+        }
+    }
+
+    /// Whether another engine has this history, or this one with the loose entry behind it.
+    fn may_become(&self, found: &Engine) -> bool
+        ensures { IsTrue result → (found.now.history ≡ self.now.history) ⊎ (found.now.history ≡ self.now.history ++ option_to_list self.now.loose) }
+    {
+        comes_from(&self.history, &self.loose, &found.history)
+    }
+
+    fn ask_settled<P: Plant, C: Clock>(
+        &mut self,
+        plant: &mut P,
+        clock: &mut C,
+        caller: &Caller,
+        command: &Command,
+    ) -> Reply
+        requires settled { self.old.loose ≡ None }
+        requires stands { StandsForPlant self.old (P.told plant.old) }
+        requires caller { IsCaller caller.now }
+        requires command { IsCommand command.now }
+        ensures stands { StandsForPlant self.new (P.told plant.new) }
+        ensures signer { LeavesSigner (P.told plant.old) (P.told plant.new) }
+        ensures later { (P.told plant.old).disk_faults ≤ (P.told plant.new).disk_faults }
+    {
+        match clock.now() {
+            Ok(reading) => self.act(plant, caller, command, reading),
+            Err(_) => Reply::ClockFault,
+        }
+    }
+
+    /// Says the answer over a reading, or writes its entry.
+    fn act<P: Plant>(
+        &mut self,
+        plant: &mut P,
+        caller: &Caller,
+        command: &Command,
+        reading: u64,
+    ) -> Reply
+        requires settled { self.old.loose ≡ None }
+        requires stands { StandsForPlant self.old (P.told plant.old) }
+        requires caller { IsCaller caller.now }
+        requires command { IsCommand command.now }
+        ensures stands { StandsForPlant self.new (P.told plant.new) }
+        ensures signer { LeavesSigner (P.told plant.old) (P.told plant.new) }
+        ensures later { (P.told plant.old).disk_faults ≤ (P.told plant.new).disk_faults }
+    {
+        match self.answer(caller, command, reading) {
+            Ok(Answer::Say(reply)) => reply,
+            Ok(Answer::Write(entry)) => self.write(plant, entry),
+            Err(NoMemory) => Reply::NoMemory,
+        }
+    }
+
+    fn answer(&self, caller: &Caller, command: &Command, reading: u64) -> Result<Answer, NoMemory>
+        requires caller { IsCaller caller.now }
+        requires command { IsCommand command.now }
+        ensures answers { IfOk result (Answers self.now.history caller.now command.now reading) }
+        ensures ready { IfOk result (IsReady self.now.history) }
+    {
+        answer_command(
+            self.alloc,
+            &self.history,
+            self.journal.end(),
+            caller,
+            command,
+            reading,
+        )
+    }
+}
+
+/// Whether a history is this one, or this one with the loose entry behind it.
+fn comes_from(history: &[Entry], loose: &Option<Entry>, found: &[Entry]) -> bool
+    ensures { IsTrue result → (found.now ≡ history.now) ⊎ (found.now ≡ history.now ++ option_to_list loose.now) }
+{
+    if are_same(found, history) {
+        return true;
+    }
+    match (loose, found.split_last()) {
+        (Some(entry), Some((last, front))) => are_same(front, history) && last.is_same(entry),
+        _ => false,
+    }
+}
