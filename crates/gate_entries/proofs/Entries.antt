@@ -115,7 +115,7 @@ has_caller caller (Settings bytes) nobody = nobody refl
 has_caller caller (Order key common days targets request) nobody = tt
 
 fields_take : (bytes : List ℕ) (x : Entry × List ℕ) → IsBytes bytes → fields_at bytes ≡ Ok x → Takes bytes (entry_bytes x.0) x.1 × AreFields x.0
-unfolding fields_at
+unfolding fields_at entry_bytes
 fields_take bytes x small e =
     let kind = bind_ok (kind_at bytes) _ x e in
     let number = bind_ok (number_at w64 kind.0.1) _ x kind.2 in

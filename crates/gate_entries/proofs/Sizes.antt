@@ -58,6 +58,7 @@ what_size (commands.Order key targets days common request) is =
 -- what a command writes has a spelling
 pub command_spelled : (number : ℕ) (moment : Moment) (caller : Caller) (command : Command) → number < 2 ^ 64 → moment.0 < 2 ^ 64
     → IsCommand command → IsCaller caller → IsEntry (entry_for number moment caller command)
+unfolding entry_bytes
 command_spelled number moment caller (commands.Order key targets days common request) number_fits moment_fits is from = record {
   number = number_fits;
   moment = moment_fits;

@@ -44,7 +44,7 @@ what_bytes (Order key common days targets request) =
     counted w8 key ++ truth common ++ to_be_bytes w16 days ++ targets_bytes targets ++ counted w16 request
 
 -- kind, number, moment, caller, and then the fields
-abbrev pub entry_bytes : Entry → List ℕ
+unfoldable pub entry_bytes : Entry → List ℕ
 entry_bytes entry =
     (kind_of entry.what ∷ []) ++ to_be_bytes w64 entry.number ++ to_be_bytes w64 entry.moment.0 ++ counted w16 entry.caller ++ what_bytes entry.what
 

@@ -21,7 +21,7 @@ moment_of-push history entry =
     let within : length history < length (history ++ entry ∷ []) = omega arith in
     rw (at, slice_get-get_or (history ++ entry ∷ []) (length history) entry within, get_or-append_seam history entry [] entry) refl
 
-EachFollows-push : (before entries : List Entry) (entry : Entry) → EachFollows before entries → Follows (before ++ entries) entry
+pub EachFollows-push : (before entries : List Entry) (entry : Entry) → EachFollows before entries → Follows (before ++ entries) entry
     → EachFollows before (entries ++ entry ∷ [])
 EachFollows-push before [] entry each follows = (subst (λ (b : List Entry). Follows b entry) (append-nil before) follows, tt)
 EachFollows-push before (first ∷ entries) entry each follows = (

@@ -114,7 +114,7 @@ refuses_whole (TooLong count) bytes rest begun behind fits refuses = absurd refu
 refuses_whole (BadHead at) bytes rest begun behind fits refuses =
     (fits, subst (λ (l : List ℕ). BreaksAt l at) (sym (front_and_rest bytes rest begun behind)) refuses)
 refuses_whole Disk bytes rest begun behind fits refuses = tt
-refuses_whole NoMemory bytes rest begun behind fits refuses = tt
+refuses_whole NoMemory bytes rest begun behind fits refuses = (begun, fits)
 
 -- a whole record stands at the front
 not_torn : (payload rest : List ℕ) → IsPayload payload → IsTorn (record_of payload ++ rest) → ⊥

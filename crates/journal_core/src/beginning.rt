@@ -36,6 +36,7 @@ pub fn begin<P: Plant>(alloc: Global, plant: &mut P, payload: &[u8]) -> Result<(
     // Where bytes stand, nothing is written, whatever it answers.
     ensures kept { ForSome (P.told plant.old).bytes (λ bytes. bytes ≢ [] → (P.told plant.new).bytes ≡ (P.told plant.old).bytes) }
     ensures memory { IsErrOf result BeginFault.NoMemory → (P.told plant.new).bytes ≡ (P.told plant.old).bytes }
+    ensures memory_empty { IsErrOf result BeginFault.NoMemory → ForSome (P.told plant.old).bytes (λ bytes. bytes ≡ []) }
     ensures tells { is_some (P.told plant.new).bytes ≡ is_some (P.told plant.old).bytes }
     ensures disk { IsErrOf result BeginFault.Disk → Rose (P.told plant.old).disk_faults (P.told plant.new).disk_faults }
     ensures later { (P.told plant.old).disk_faults ≤ (P.told plant.new).disk_faults }

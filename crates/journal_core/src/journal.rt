@@ -1,5 +1,5 @@
 //! A mounted journal, which grows at its end.
-ghost use Rattle.std.specs.Prelude.{◌≡◌, ℕ, List, ◌+◌, ◌^◌, ◌<◌, ◌≤◌, ◌↔◌, [], ◌∷◌, ◌++◌, true, false, max, length, is_some, vec_capacity, IsTrue, IfOk, IfErr, IsErrOf, OnOk, OnErr};
+ghost use Rattle.std.specs.Prelude.{◌≡◌, ℕ, List, ◌+◌, ◌^◌, ◌<◌, ◌≤◌, ◌↔◌, [], ◌∷◌, ◌++◌, true, false, max, length, is_some, vec_capacity, IsTrue, IsOk, IfOk, IfErr, IsErrOf, OnOk, OnErr};
 ghost use Rattle.std.specs.Option.{option_map, ForSome};
 ghost use Rattle.std.specs.List.{AllByRecursion};
 ghost use Rattle.plant.specs.Causes.{HasCause, Rose};
@@ -75,6 +75,7 @@ impl Journal {
         ensures ok { OnOk result (self.new ≡ record self.old { spare = max self.old.spare longest }) }
         ensures room { OnOk result (longest ≤ self.new.spare) }
         ensures err { OnErr result (self.new ≡ self.old) }
+        ensures enough { longest ≤ self.old.spare → IsOk result }
     {
         if longest > self.spare {
             make_room(&mut self.room, longest)?;

@@ -1,5 +1,5 @@
 //! How a journal is read from the disk.
-ghost use Rattle.std.specs.Prelude.{◌≡◌, ℕ, List, ◌+◌, ◌-◌, ◌^◌, ◌<◌, ◌≤◌, length, take, drop, IfOk, IfErr, IsErrOf};
+ghost use Rattle.std.specs.Prelude.{◌≡◌, ◌+◌, ◌-◌, ◌^◌, ◌<◌, ◌≤◌, length, take, drop, IfOk, IfErr, IsErrOf};
 ghost use Rattle.std.specs.Option.{ForSome};
 ghost use Rattle.plant.specs.Causes.{Rose};
 ghost use Rattle.plant.specs.Plant.{LeavesSigner};
@@ -55,9 +55,10 @@ fn read_rest<P: Plant>(alloc: Global, plant: &mut P, end: u64) -> Result<Vec<u8>
     requires some { 16 ≤ end }
     requires fits { end ≤ 67108864 }
     requires end { ForSome (P.told plant.old).bytes (λ bytes. length bytes ≡ end) }
+    requires begun { ForSome (P.told plant.old).bytes (λ bytes. take 16 bytes ≡ head) }
     ensures rest { IfOk result (λ rest. ForSome (P.told plant.old).bytes (λ bytes. rest.items ≡ drop 16 bytes)) }
     ensures size { IfOk result (λ rest. length rest.items + 16 ≡ end) }
-    ensures fault { IfErr result (λ fault. (bytes : List ℕ) → Refuses fault bytes) }
+    ensures fault { IfErr result (λ fault. ForSome (P.told plant.old).bytes (λ bytes. Refuses fault bytes)) }
     ensures same { (P.told plant.new).bytes ≡ (P.told plant.old).bytes }
     ensures disk { IsErrOf result MountFault.Disk → Rose (P.told plant.old).disk_faults (P.told plant.new).disk_faults }
     ensures later { (P.told plant.old).disk_faults ≤ (P.told plant.new).disk_faults }

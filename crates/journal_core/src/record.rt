@@ -1,5 +1,5 @@
 //! Records as bytes: each has four bytes of length and then its payload.
-ghost use Rattle.std.specs.Prelude.{◌≡◌, ◌+◌, ◌*◌, ◌≤◌, ◌↔◌, ◌∷◌, [], ◌++◌, length, take, flat_map, vec_len, vec_capacity, IsOk, IsTrue, IfOk, IfErr, IfSome, IfNone, OnOk};
+ghost use Rattle.std.specs.Prelude.{◌≡◌, ◌+◌, ◌*◌, ◌≤◌, ◌∷◌, [], ◌++◌, length, take, flat_map, vec_len, vec_capacity, IsOk, IfOk, IfErr, IfSome, IfNone, OnOk};
 ghost use Rattle.std.specs.List.{AllByRecursion};
 ghost use Rattle.std.specs.Int.{w32, to_be_bytes};
 ghost use Rattle.journal_core.specs.Journal.{IsPayload, record_of, length_at_front, IsTorn};
