@@ -10,7 +10,7 @@ use Rattle.gate_entries.specs.declared.entry.What.{What}
 use Rattle.gate_entries.specs.declared.entry.What.TheVariants.{Settings, Order}
 use Rattle.gate_entries.specs.Spelling.{counted, truth, target_bytes, targets_bytes, kind_of, what_bytes, entry_bytes, IsWhat, HasCaller, most_bytes, IsEntry}
 use Rattle.gate_entries.specs.Reading.{◌>>=◌, number_at, counted_at, truth_at, targets_at, order_at, settings_at, what_at, kind_at, caller_behind, caller_at, fields_at, with_no_rest, whole_entry}
-use Rattle.gate_entries.proofs.Fields.{IsBytes, IsBytes-rest, bind_ok, guard_ok, guard_met, ok_is, Takes, takes_both, wide8, wide16, wide32, wide64, number_takes, counted_takes, truth_takes}
+use Rattle.gate_entries.proofs.Fields.{IsBytes, IsBytes-rest, bind_ok, guard_ok, guard_met, as_made, Takes, takes_both, wide8, wide16, wide32, wide64, number_takes, counted_takes, truth_takes}
 use Rattle.gate_entries.proofs.Targets.{targets_take, chosen, only_met}
 
 -- ---- what an entry says
@@ -25,7 +25,7 @@ settings_takes bytes x small e =
     let settings = bind_ok (counted_at w32 bytes) _ x e in
     let takes = counted_takes w32 (2 ^ 32) wide32 bytes settings.0 small settings.1 in
     let made : What × List ℕ = (Settings settings.0.0, settings.0.1) in
-    subst (TakesWhat 1 bytes) (ok_is made x settings.2) (takes.0, takes.1, refl)
+    as_made (TakesWhat 1 bytes) made x settings.2 (takes.0, takes.1, refl)
 
 -- a number of targets, and the targets
 counted_targets : (bytes : List ℕ) (count : ℕ × List ℕ) (x : List Target × List ℕ) → Takes bytes (to_be_bytes w8 count.0) count.1
@@ -52,12 +52,16 @@ order_takes bytes x small e =
     let all_targets = counted_targets days.0.1 count.0 targets.0 of_count.0 of_targets.0 of_targets.1 in
     let whole = takes_both (takes_both (takes_both (takes_both of_key.0 of_common) of_days.0) all_targets) of_request.0 in
     let made : What × List ℕ = (Order key.0.0 common.0.0 days.0.0 targets.0.0 request.0.0, request.0.1) in
-    subst (TakesWhat 2 bytes) (ok_is made x request.2) (whole, record {
-      key_fits = of_key.1;
-      days_fit = of_days.1;
-      are_targets = record { count = omega (arith, of_targets.1, of_count.1); each = of_targets.2 };
-      request_fits = of_request.1;
-    }, refl)
+    as_made (TakesWhat 2 bytes) made x request.2 (
+      whole,
+      record {
+        key_fits = of_key.1;
+        days_fit = of_days.1;
+        are_targets = record { count = omega (arith, of_targets.1, of_count.1); each = of_targets.2 };
+        request_fits = of_request.1;
+      },
+      refl {a = 2},
+    )
 
 what_takes : (kind : ℕ) (bytes : List ℕ) (x : What × List ℕ) → IsBytes bytes → (kind ≡ 1) ⊎ (kind ≡ 2) → what_at kind bytes ≡ Ok x → TakesWhat kind bytes x
 unfolding what_at
@@ -76,12 +80,12 @@ kind_takes (kind ∷ bytes) x small e =
     let rest = IsBytes-rest kind bytes small in
     elim (chosen (eqb kind 1) (Ok (1, bytes)) _ (Ok x) e) [
       | inl is1 ↦
-        subst (λ (y : ℕ × List ℕ). Takes (kind ∷ bytes) (y.0 ∷ []) y.1 × ((y.0 ≡ 1) ⊎ (y.0 ≡ 2))) (ok_is (1, bytes) x is1.1)
-        (record { parts = ap (λ (k : ℕ). k ∷ bytes) (eqb-true kind 1 is1.0); small = rest }, inl refl)
+          as_made (λ (y : ℕ × List ℕ). Takes (kind ∷ bytes) (y.0 ∷ []) y.1 × ((y.0 ≡ 1) ⊎ (y.0 ≡ 2))) (1, bytes) x is1.1
+          (record { parts = ap (λ (k : ℕ). k ∷ bytes) (eqb-true kind 1 is1.0); small = rest }, inl refl)
       | inr not1 ↦
-        let g = only_met (eqb kind 2) (suc (length bytes)) (Ok (2, bytes)) x not1.1 in
-        subst (λ (y : ℕ × List ℕ). Takes (kind ∷ bytes) (y.0 ∷ []) y.1 × ((y.0 ≡ 1) ⊎ (y.0 ≡ 2))) (ok_is (2, bytes) x g.1)
-        (record { parts = ap (λ (k : ℕ). k ∷ bytes) (eqb-true kind 2 g.0); small = rest }, inr refl)
+          let g = only_met (eqb kind 2) (suc (length bytes)) (Ok (2, bytes)) x not1.1 in
+          as_made (λ (y : ℕ × List ℕ). Takes (kind ∷ bytes) (y.0 ∷ []) y.1 × ((y.0 ≡ 1) ⊎ (y.0 ≡ 2))) (2, bytes) x g.1
+          (record { parts = ap (λ (k : ℕ). k ∷ bytes) (eqb-true kind 2 g.0); small = rest }, inr refl)
     ]
 
 second_fails : (x y : Bool) → (x && y) ≡ false → x ≡ true → y ≡ false
@@ -96,8 +100,8 @@ caller_takes kind bytes x small e =
     let takes = counted_takes w16 (2 ^ 16) wide16 bytes caller.0 small caller.1 in
     let g = guard_ok (eqb kind 1 && ltb 0 (length caller.0.0)) (length bytes) caller.0 x caller.2 in
     let nobody : kind ≡ 1 → caller.0.0 ≡ [] = λ (is1 : kind ≡ 1).
-        let none : length caller.0.0 ≤ 0 = ltb-false 0 (length caller.0.0) (second_fails (eqb kind 1) _ g.0 (eq-eqb kind 1 is1)) in
-        nil_from_length caller.0.0 (omega arith) in
+    let none : length caller.0.0 ≤ 0 = ltb-false 0 (length caller.0.0) (second_fails (eqb kind 1) _ g.0 (eq-eqb kind 1 is1)) in
+    nil_from_length caller.0.0 (omega arith) in
     subst (λ (y : List ℕ × List ℕ). Takes bytes (counted w16 y.0) y.1 × (length y.0 < 2 ^ 16) × (kind ≡ 1 → y.0 ≡ [])) g.1 (takes.0, takes.1, nobody)
 
 -- ---- the whole entry
@@ -130,13 +134,16 @@ fields_take bytes x small e =
     let of_kind_now : Takes bytes (kind_of what.0.0 ∷ []) kind.0.1 = subst (λ (k : ℕ). Takes bytes (k ∷ []) kind.0.1) (sym of_what.2) of_kind.0 in
     let whole = takes_both (takes_both (takes_both (takes_both of_kind_now of_number.0) of_moment.0) of_caller.0) of_what.0 in
     let made : Entry × List ℕ = (record { number = number.0.0; moment = record { 0 = moment.0.0 }; caller = caller.0.0; what = what.0.0 }, what.0.1) in
-    subst (λ (y : Entry × List ℕ). Takes bytes (entry_bytes y.0) y.1 × AreFields y.0) (ok_is made x what.2) (whole, record {
-      number = of_number.1;
-      moment = of_moment.1;
-      caller = of_caller.1;
-      from = has_caller caller.0.0 what.0.0 (λ is1. of_caller.2 (sym of_what.2 ∙ is1));
-      what = of_what.1;
-    })
+    as_made (λ (y : Entry × List ℕ). Takes bytes (entry_bytes y.0) y.1 × AreFields y.0) made x what.2 (
+      whole,
+      record {
+        number = of_number.1;
+        moment = of_moment.1;
+        caller = of_caller.1;
+        from = has_caller caller.0.0 what.0.0 (λ is1. of_caller.2 (sym of_what.2 ∙ is1));
+        what = of_what.1;
+      },
+    )
 
 only_fits : {A : Type 0} (b : Bool) (left : ℕ) (r : Result A ℕ) (y : A) → cond b (Err left) r ≡ Ok y → (b ≡ false) × (r ≡ Ok y)
 only_fits true left r y e = absurd cc
@@ -153,11 +160,11 @@ entry_found bytes entry small e =
     let nothing : read.0.1 ≡ [] = nil_from_length read.0.1 (eqb-true _ _ no_rest.0) in
     let spelled : bytes ≡ entry_bytes read.0.0 = takes.0.parts ∙ ap (λ (r : List ℕ). entry_bytes read.0.0 ++ r) nothing ∙ append-nil (entry_bytes read.0.0) in
     let is : IsEntry read.0.0 = record {
-        number = takes.1.number;
-        moment = takes.1.moment;
-        caller = takes.1.caller;
-        from = takes.1.from;
-        what = takes.1.what;
-        size = subst (λ (b : List ℕ). length b ≤ most_bytes) spelled fits;
+      number = takes.1.number;
+      moment = takes.1.moment;
+      caller = takes.1.caller;
+      from = takes.1.from;
+      what = takes.1.what;
+      size = subst (λ (b : List ℕ). length b ≤ most_bytes) spelled fits;
     } in
     subst (λ (y : Entry). IsEntry y × (bytes ≡ entry_bytes y)) no_rest.1 (is, spelled)

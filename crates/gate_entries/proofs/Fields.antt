@@ -43,6 +43,10 @@ done x = Ok x
 pub ok_is : {A : Type 0} (x y : A) → done x ≡ done y → x ≡ y
 ok_is x y e = cc
 
+-- what holds of the value that was made holds of the one that was given
+pub as_made : {A : Type 0} (P : A → Type 0) (x y : A) → done x ≡ done y → P x → P y
+as_made P x y e is = subst P (ok_is x y e) is
+
 -- ---- what a reader took from the front
 
 pub record Takes (bytes text rest : List ℕ) : Type 0 where
@@ -120,7 +124,7 @@ number_takes width limit wide bytes x small e =
     let few : IsBytes front = IsBytes-take (byte_len width) bytes small in
     let back : to_be_bytes width (from_be_bytes width front) ≡ front = wide.back front (omega (arith, length-take (byte_len width) bytes)) few in
     let takes : Takes bytes (to_be_bytes width (from_be_bytes width front)) (drop (byte_len width) bytes) =
-        record { parts = rw back (sym (take-append-drop (byte_len width) bytes)); small = IsBytes-drop (byte_len width) bytes small } in
+    record { parts = rw back (sym (take-append-drop (byte_len width) bytes)); small = IsBytes-drop (byte_len width) bytes small } in
     subst (λ (y : ℕ × List ℕ). Takes bytes (to_be_bytes width y.0) y.1 × (y.0 < limit)) g.1 (takes, wide.below front few)
 
 -- ---- bytes behind their number
@@ -146,7 +150,7 @@ pub truth_takes : (bytes : List ℕ) (x : Bool × List ℕ) → IsBytes bytes �
 unfolding truth_at
 truth_takes [] x small e = absurd cc
 truth_takes (zero ∷ bytes) x small e =
-    subst (λ (y : Bool × List ℕ). Takes (0 ∷ bytes) (truth y.0) y.1) (ok_is (false, bytes) x e) (record { parts = refl; small = IsBytes-rest 0 bytes small })
+    as_made (λ (y : Bool × List ℕ). Takes (0 ∷ bytes) (truth y.0) y.1) (false, bytes) x e (record { parts = refl; small = IsBytes-rest 0 bytes small })
 truth_takes (suc zero ∷ bytes) x small e =
-    subst (λ (y : Bool × List ℕ). Takes (1 ∷ bytes) (truth y.0) y.1) (ok_is (true, bytes) x e) (record { parts = refl; small = IsBytes-rest 1 bytes small })
+    as_made (λ (y : Bool × List ℕ). Takes (1 ∷ bytes) (truth y.0) y.1) (true, bytes) x e (record { parts = refl; small = IsBytes-rest 1 bytes small })
 truth_takes (suc (suc byte) ∷ bytes) x small e = absurd cc

@@ -5,3 +5,5 @@ pub mod Sizes
 pub mod Fields
 pub mod Targets
 pub mod Entries
+pub mod Again
+pub mod One

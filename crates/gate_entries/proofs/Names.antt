@@ -1,9 +1,9 @@
 -- Texts cut at their dots, and put together again.
 use Rattle.std.proofs.Common.{◌≡◌, ◌≢◌, ℕ, ◌<◌, ◌≤◌, Bool, true, false, ◌&&◌, List, [], ◌∷◌, ◌++◌, length, eqb, ltb, leb, cond, refl, sym, ap, subst, ◌∙◌, arith, append_assoc, append-nil}
-use Rattle.std.specs.List.{flat_map}
-use Rattle.std.proofs.lemmas.Bool.{lt-ltb, le-leb}
+use Rattle.std.specs.List.{flat_map, list_all}
+use Rattle.std.proofs.lemmas.Bool.{eqb-true, lt-ltb, le-leb}
 use Rattle.std.proofs.lemmas.Bool.Decides.{nat_tests}
-use Rattle.gate_entries.specs.Name.{name_text, with_byte, labels_of}
+use Rattle.gate_entries.specs.Name.{name_text, with_byte, labels_of, is_label_byte, is_label}
 
 -- labels that are done, one that is begun, and those of what is still to be read
 abbrev pub begun : List (List ℕ) → List ℕ → List (List ℕ) → List (List ℕ)
@@ -68,6 +68,55 @@ spelled_again byte bytes false is same = rw is (text_with_byte byte (labels_of b
 pub name_text-labels_of : (text : List ℕ) → name_text (labels_of text) ≡ text
 name_text-labels_of [] = refl
 name_text-labels_of (byte ∷ bytes) = spelled_again byte bytes (eqb byte 46) refl (name_text-labels_of bytes)
+
+-- ---- labels are what their text is cut to
+
+pub left_holds : (x y : Bool) → (x && y) ≡ true → x ≡ true
+left_holds true y both = refl
+left_holds false y both = absurd cc
+
+right_holds : (x y : Bool) → (x && y) ≡ true → y ≡ true
+right_holds true y both = both
+right_holds false y both = absurd cc
+
+no_dot : (byte : ℕ) (dot : Bool) → eqb byte 46 ≡ dot → is_label_byte byte ≡ true → dot ≡ false
+no_dot byte true same ok =
+    let wrong : is_label_byte 46 ≡ true = subst (λ (b : ℕ). is_label_byte b ≡ true) (eqb-true byte 46 same) ok in
+    absurd cc
+no_dot byte false same ok = refl
+
+put_before : (byte : ℕ) (bytes : List ℕ) (labels : List (List ℕ)) → HasFirst labels → with_byte byte (begun [] bytes labels) ≡ begun [] (byte ∷ bytes) labels
+put_before byte bytes labels first = rw first.whole refl
+
+cut_behind : (label text : List ℕ) → list_all is_label_byte label ≡ true → labels_of (label ++ text) ≡ begun [] label (labels_of text)
+cut_behind [] text ok = sym (begins text)
+cut_behind (byte ∷ bytes) text ok =
+    let test : eqb byte 46 ≡ false = no_dot byte (eqb byte 46) refl (left_holds _ _ ok) in
+    let others = cut_behind bytes text (right_holds _ _ ok) in
+    rw test (ap (with_byte byte) others ∙ put_before byte bytes (labels_of text) (first_of_text text))
+
+label_bytes : (label : List ℕ) → is_label label ≡ true → list_all is_label_byte label ≡ true
+label_bytes label ok = right_holds _ _ ok
+
+pub labels_of-name_text : (label : List ℕ) (labels : List (List ℕ)) → list_all is_label (label ∷ labels) ≡ true → labels_of (name_text (label ∷ labels)) ≡ label ∷ labels
+labels_of-name_text label [] ok =
+    cut_behind label [] (label_bytes label (left_holds _ _ ok)) ∙ ap (λ (l : List ℕ). l ∷ []) (append-nil label)
+labels_of-name_text label (next ∷ labels) ok =
+    let others : labels_of (name_text (next ∷ labels)) ≡ next ∷ labels = labels_of-name_text next labels (right_holds _ _ ok) in
+    let cut = cut_behind label (46 ∷ name_text (next ∷ labels)) (label_bytes label (left_holds _ _ ok)) in
+    cut ∙ ap (λ (l : List (List ℕ)). begun [] label ([] ∷ l)) others ∙ ap (λ (l : List ℕ). l ∷ next ∷ labels) (append-nil label)
+
+-- labels with one text are the same
+no_text : (label : List ℕ) (labels : List (List ℕ)) → is_label label ≡ true → [] ≡ name_text (label ∷ labels) → ⊥
+no_text [] labels ok same = absurd cc
+no_text (byte ∷ label) labels ok same = absurd cc
+
+pub one_text : (left right : List (List ℕ)) → list_all is_label left ≡ true → list_all is_label right ≡ true → name_text left ≡ name_text right → left ≡ right
+one_text [] [] ok1 ok2 same = refl
+one_text [] (label ∷ labels) ok1 ok2 same = absurd (no_text label labels (left_holds _ _ ok2) same)
+one_text (label ∷ labels) [] ok1 ok2 same = absurd (no_text label labels (left_holds _ _ ok1) (sym same))
+one_text (label ∷ labels) (next ∷ others) ok1 ok2 same =
+    sym (labels_of-name_text label labels ok1) ∙ ap labels_of same ∙ labels_of-name_text next others ok2
 
 -- ---- tests
 

@@ -24,7 +24,7 @@ most : (wild : Bool) → (if wild then 251 else 253) ≤ 253
 most true = omega arith
 most false = omega arith
 
-name_size : (wild : Bool) (labels : List (List ℕ)) → IsTrue (is_name wild labels) → length (name_text labels) ≤ 253
+pub name_size : (wild : Bool) (labels : List (List ℕ)) → IsTrue (is_name wild labels) → length (name_text labels) ≤ 253
 name_size wild labels is =
     let fits : length (name_text labels) ≤ (if wild then 251 else 253) = leb-true _ _ (second _ _ is) in
     omega (arith, fits, most wild)

@@ -13,7 +13,7 @@ use Rattle.gate_entries.specs.Name.{name_text, labels_of, is_name}
 use Rattle.gate_entries.specs.Spelling.{counted, truth, target_bytes, IsTarget}
 use Rattle.gate_entries.specs.Reading.{◌>>=◌, bytes_at, counted_at, truth_at, labels_behind, labels_at, name_at, v4_at, v6_at, target_at, targets_at}
 use Rattle.gate_entries.proofs.Names.{name_text-labels_of}
-use Rattle.gate_entries.proofs.Fields.{IsBytes, IsBytes-rest, bind_ok, guard_met, ok_is, Takes, takes_both, takes_behind, bytes_takes, wide8, counted_takes, truth_takes}
+use Rattle.gate_entries.proofs.Fields.{IsBytes, IsBytes-rest, bind_ok, guard_met, as_made, Takes, takes_both, takes_behind, bytes_takes, wide8, counted_takes, truth_takes}
 
 -- which way a test went
 pub chosen : {A : Type 0} (b : Bool) (x y z : A) → cond b x y ≡ z → ((b ≡ true) × (x ≡ z)) ⊎ ((b ≡ false) × (y ≡ z))
@@ -48,7 +48,7 @@ name_takes bytes x small e =
     let second = labels_takes wild.0.0 wild.0.1 labels.0 first.small labels.1 in
     let both = takes_both first second.0 in
     let made : Target × List ℕ = (Dns (record { labels = labels.0.0; wild = wild.0.0 }), labels.0.1) in
-    subst (TakesTarget 1 bytes) (ok_is made x labels.2) (takes_behind both, second.1)
+    as_made (TakesTarget 1 bytes) made x labels.2 (takes_behind both, second.1)
 
 v4_takes : (bytes : List ℕ) (x : Target × List ℕ) → IsBytes bytes → v4_at bytes ≡ Ok x → TakesTarget 2 bytes x
 unfolding v4_at
@@ -56,7 +56,7 @@ v4_takes bytes x small e =
     let octets = bind_ok (bytes_at 4 bytes) _ x e in
     let takes = bytes_takes 4 bytes octets.0 small octets.1 in
     let made : Target × List ℕ = (Ip (V4 octets.0.0), octets.0.1) in
-    subst (TakesTarget 2 bytes) (ok_is made x octets.2) (takes_behind takes.0, takes.1)
+    as_made (TakesTarget 2 bytes) made x octets.2 (takes_behind takes.0, takes.1)
 
 v6_takes : (bytes : List ℕ) (x : Target × List ℕ) → IsBytes bytes → v6_at bytes ≡ Ok x → TakesTarget 3 bytes x
 unfolding v6_at
@@ -64,7 +64,7 @@ v6_takes bytes x small e =
     let octets = bind_ok (bytes_at 16 bytes) _ x e in
     let takes = bytes_takes 16 bytes octets.0 small octets.1 in
     let made : Target × List ℕ = (Ip (V6 octets.0.0), octets.0.1) in
-    subst (TakesTarget 3 bytes) (ok_is made x octets.2) (takes_behind takes.0, takes.1)
+    as_made (TakesTarget 3 bytes) made x octets.2 (takes_behind takes.0, takes.1)
 
 of_kind : (kind known : ℕ) (bytes : List ℕ) (x : Target × List ℕ) → eqb kind known ≡ true → TakesTarget known bytes x → TakesTarget kind bytes x
 of_kind kind known bytes x test takes = subst (λ (k : ℕ). TakesTarget k bytes x) (sym (eqb-true kind known test)) takes
@@ -79,8 +79,8 @@ target_takes (kind ∷ bytes) x small e =
       | inr not1 ↦ elim (chosen (eqb kind 2) (v4_at bytes) _ (Ok x) not1.1) [
         | inl is2 ↦ of_kind kind 2 bytes x is2.0 (v4_takes bytes x rest is2.1)
         | inr not2 ↦
-          let g = only_met (eqb kind 3) (suc (length bytes)) (v6_at bytes) x not2.1 in
-          of_kind kind 3 bytes x g.0 (v6_takes bytes x rest g.1)
+            let g = only_met (eqb kind 3) (suc (length bytes)) (v6_at bytes) x not2.1 in
+            of_kind kind 3 bytes x g.0 (v6_takes bytes x rest g.1)
       ]
     ]
 
@@ -88,7 +88,7 @@ pub targets_take : (count : ℕ) (bytes : List ℕ) (x : List Target × List ℕ
     → Takes bytes (flat_map target_bytes x.0) x.1 × (length x.0 ≡ count) × AllByRecursion IsTarget x.0
 unfolding targets_at
 targets_take zero bytes x small e =
-    subst (λ (y : List Target × List ℕ). Takes bytes (flat_map target_bytes y.0) y.1 × (length y.0 ≡ 0) × AllByRecursion IsTarget y.0) (ok_is ([], bytes) x e)
+    as_made (λ (y : List Target × List ℕ). Takes bytes (flat_map target_bytes y.0) y.1 × (length y.0 ≡ 0) × AllByRecursion IsTarget y.0) ([], bytes) x e
     (record { parts = refl; small = small }, refl, tt)
 targets_take (suc count) bytes x small e =
     let a = bind_ok (target_at bytes) _ x e in
@@ -97,5 +97,5 @@ targets_take (suc count) bytes x small e =
     let second = targets_take count a.0.1 b.0 first.0.small b.1 in
     let both = takes_both first.0 second.0 in
     let made : List Target × List ℕ = (a.0.0 ∷ b.0.0, b.0.1) in
-    subst (λ (y : List Target × List ℕ). Takes bytes (flat_map target_bytes y.0) y.1 × (length y.0 ≡ suc count) × AllByRecursion IsTarget y.0) (ok_is made x b.2)
+    as_made (λ (y : List Target × List ℕ). Takes bytes (flat_map target_bytes y.0) y.1 × (length y.0 ≡ suc count) × AllByRecursion IsTarget y.0) made x b.2
     (rw flat_map-cons both, ap suc second.1, (first.1, second.2))

@@ -1,0 +1,5 @@
+use Rattle.gate_entries.proofs.One.{one_entry}
+use Rattle.gate_entries.proofs.law.one_spelling.Goals as goal
+
+pub returns : goal.returns
+returns c = one_entry
