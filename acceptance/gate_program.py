@@ -54,14 +54,19 @@ PLACED = reply("200 OK", '{"order":2,"reply":"placed"}')
 KEY_REUSED = reply("409 Conflict", '{"kept":2,"reply":"key_reused"}')
 
 
-def run_gate(arguments, sent=b"", program=PROGRAM):
-    """Runs the program; one that doesn't end in time is ended, by its own number."""
+def run_command(command, sent=b"", folder=None, environment=None, seconds=SECONDS):
+    """Runs a command; one that doesn't end in time is ended, by its own number."""
     try:
         return subprocess.run(
-            [program, *arguments], input=sent, capture_output=True, timeout=SECONDS, check=False
+            command, input=sent, capture_output=True, timeout=seconds, check=False, cwd=folder, env=environment
         )
     except subprocess.TimeoutExpired:
-        raise Wrong(f"{arguments}: it didn't end within {SECONDS} seconds") from None
+        words = " ".join(str(word) for word in command[1:])
+        raise Wrong(f"{pathlib.Path(command[0]).name} {words}: it didn't end within {seconds} seconds") from None
+
+
+def run_gate(arguments, sent=b""):
+    return run_command([PROGRAM, *arguments], sent)
 
 
 def records_of(written):
@@ -128,7 +133,7 @@ def main(cases):
         try:
             case(Gate(folder))
             print(f"ok      {case.__doc__}")
-        except Wrong as wrong:
+        except (Wrong, OSError) as wrong:
             failed += 1
             print(f"FAILED  {case.__doc__}\n        {wrong}")
         finally:
