@@ -17,7 +17,7 @@ pub use entry::{Entry, What};
 pub use fault::{EntryFault, EntryRead};
 pub use gate_base::Role;
 pub use law::one_spelling;
-pub use reading::read_entry;
+pub use reading::{read_entry, read_name_text};
 pub use reply::Reply;
 pub use writing::write_entry;
 

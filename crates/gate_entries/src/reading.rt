@@ -1,6 +1,7 @@
 ghost use Rattle.std.specs.Prelude.{◌≡◌, [], length, IfOk, Ok};
 ghost use Rattle.std.specs.List.{list_all};
 ghost use Rattle.std.specs.Int.{w8, w16, w32, w64};
+ghost use Rattle.gate_base.specs.declared.name.Target.TheVariants.{Dns};
 ghost use Rattle.gate_entries.specs.Name.{labels_of, name_text, is_name, is_label, is_label_byte};
 ghost use Rattle.gate_entries.specs.Spelling.{entry_bytes, IsEntry, HasLabels};
 ghost use Rattle.gate_entries.specs.declared.entry.Entry.{Entry as EntryValue};
@@ -332,6 +333,17 @@ fn read_u64(bytes: &[u8]) -> Result<(u64, &[u8]), FieldFault>
         front[0], front[1], front[2], front[3], front[4], front[5], front[6], front[7],
     ]);
     Ok((number, rest))
+}
+
+/// The name whose text, without `*.`, this is; None where it is no name's.
+pub fn read_name_text(alloc: Global, wild: bool, text: &[u8]) -> Result<Option<Name>, NoMemory>
+    ensures { IfOk result (λ found. IfSome found (λ name. IsTarget (Dns name))) }
+{
+    let labels = labels_of(alloc, text)?;
+    if !is_name(wild, &labels, text.len()) {
+        return Ok(None);
+    }
+    Ok(Some(Name { labels, wild }))
 }
 
 fn sixteen(octets: &[u8]) -> [u8; 16]
