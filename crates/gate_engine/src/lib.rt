@@ -2,12 +2,14 @@
 #![tactic(auto)]
 
 mod asking;
+mod beginning;
 mod engine;
 mod fault;
 mod replaying;
 mod starting;
 mod writing;
 
+pub use beginning::begin;
 pub use engine::Engine;
 pub use fault::StartFault;
 

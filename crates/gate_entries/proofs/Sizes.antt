@@ -2,7 +2,7 @@
 use Rattle.std.proofs.Common.{◌≡◌, ℕ, ◌+◌, ◌*◌, ◌^◌, ◌<◌, ◌≤◌, Bool, true, false, ◌&&◌, List, [], ◌∷◌, ◌++◌, length, leb, refl, ap, ◌∙◌, arith, length-append}
 use Rattle.std.specs.Prelude.{IsTrue, if◌then◌else◌}
 use Rattle.std.specs.List.{flat_map, AllByRecursion}
-use Rattle.std.specs.Int.{w8, w16, w64, to_be_bytes}
+use Rattle.std.specs.Int.{w8, w16, w32, w64, to_be_bytes}
 use Rattle.std.proofs.lemmas.Bool.{leb-true}
 use Rattle.std.proofs.lemmas.List.Concat.{flat_map-cons}
 use Rattle.gate_base.specs.declared.moment.Moment.{Moment}
@@ -14,7 +14,7 @@ use Rattle.gate_entries.specs.declared.command.Command.{Command}
 use Rattle.gate_entries.specs.declared.command.Command.TheVariants as commands
 use Rattle.gate_entries.specs.Name.{name_text, is_label, is_name}
 use Rattle.gate_entries.specs.Spelling.{counted, truth, target_bytes, targets_bytes, what_bytes, entry_bytes, IsTarget, IsEntry}
-use Rattle.gate_entries.specs.Command.{entry_for, what_of, IsCommand, IsCaller}
+use Rattle.gate_entries.specs.Command.{settings_entry, entry_for, what_of, IsCommand, IsCaller}
 
 second : (x y : Bool) → IsTrue (x && y) → y ≡ true
 second true y both = both
@@ -70,4 +70,19 @@ command_spelled number moment caller (commands.Order key targets days common req
       let e1 = length-append ((2 ∷ []) ++ to_be_bytes w64 number ++ to_be_bytes w64 moment.0 ++ counted w16 caller.id) (what_bytes (what_of (commands.Order key targets days common request))) in
       let e2 = length-append (to_be_bytes w16 (length caller.id)) caller.id in
       omega (arith, rest, e1, e2, from);
+}
+
+pub settings_spelled : (number : ℕ) (moment : Moment) (bytes : List ℕ) → number < 2 ^ 64 → moment.0 < 2 ^ 64 → length bytes ≤ 1048576
+    → IsEntry (settings_entry number moment bytes)
+unfolding entry_bytes
+settings_spelled number moment bytes number_fits moment_fits fits = record {
+  number = number_fits;
+  moment = moment_fits;
+  caller = omega arith;
+  from = refl;
+  what = omega (arith, fits);
+  size =
+      let e1 = length-append ((1 ∷ []) ++ to_be_bytes w64 number ++ to_be_bytes w64 moment.0 ++ counted w16 []) (counted w32 bytes) in
+      let e2 = length-append (to_be_bytes w32 (length bytes)) bytes in
+      omega (arith, e1, e2, fits);
 }

@@ -1,5 +1,5 @@
 -- Commands and the entries that they write.
-use Rattle.std.specs.Prelude.{ℕ, ◌≤◌, List, length}
+use Rattle.std.specs.Prelude.{ℕ, ◌≤◌, List, [], length}
 use Rattle.gate_base.specs.declared.moment.Moment.{Moment}
 use Rattle.gate_entries.specs.declared.caller.Caller.{Caller}
 use Rattle.gate_entries.specs.declared.command.Command.{Command}
@@ -20,6 +20,10 @@ what_of (commands.Order key targets days common request) = whats.Order key commo
 -- the entry that a command writes
 abbrev pub entry_for : ℕ → Moment → Caller → Command → Entry
 entry_for number moment caller command = record { number = number; moment = moment; caller = caller.id; what = what_of command }
+
+-- the entry of settings, which are nobody's
+abbrev pub settings_entry : ℕ → Moment → List ℕ → Entry
+settings_entry number moment bytes = record { number = number; moment = moment; caller = []; what = whats.Settings bytes }
 
 -- the command's fields have a spelling
 abbrev pub IsCommand : Command → Type 0

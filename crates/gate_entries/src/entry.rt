@@ -1,4 +1,7 @@
-use gate_base::{Bytes, Moment, Targets};
+ghost use Rattle.std.specs.Prelude.{◌≡◌, ◌≤◌, length, IfOk};
+
+use gate_base::{Bytes, Moment, NoMemory, Targets};
+use std::alloc::Global;
 
 /// One entry of the journal.
 #[derive(Debug, Drop)]
@@ -26,4 +29,42 @@ pub enum What {
         targets: Targets,
         request: Bytes,
     },
+}
+
+impl Entry {
+    ghost use Rattle.gate_entries.specs.Spelling.{IsEntry};
+    ghost use Rattle.gate_entries.specs.Command.{settings_entry};
+
+    /// The entry of settings, which are nobody's.
+    pub fn settings(
+        alloc: Global,
+        number: u64,
+        moment: Moment,
+        bytes: &[u8],
+    ) -> Result<Entry, NoMemory>
+        requires { length bytes.now ≤ 1_048_576 }
+        ensures entry { IfOk result (λ entry. entry ≡ settings_entry number moment bytes.now) }
+        ensures spelled { IfOk result IsEntry }
+    {
+        let entry = Entry::make_settings(alloc, number, moment, bytes)?;
+        Ok(entry)
+    }
+
+    fn make_settings(
+        alloc: Global,
+        number: u64,
+        moment: Moment,
+        bytes: &[u8],
+    ) -> Result<Entry, NoMemory>
+        ensures { IfOk result (λ entry. entry ≡ settings_entry number moment bytes.now) }
+    {
+        Ok(Entry {
+            number,
+            moment,
+            caller: Bytes::new(alloc),
+            what: What::Settings {
+                bytes: Bytes::from_slice(alloc, bytes)?,
+            },
+        })
+    }
 }

@@ -1,9 +1,9 @@
-ghost use Rattle.std.specs.Prelude.{◌≡◌, [], length, IfOk, Ok};
+ghost use Rattle.std.specs.Prelude.{◌≡◌, [], length, IfOk, IfSome, Ok};
 ghost use Rattle.std.specs.List.{list_all};
 ghost use Rattle.std.specs.Int.{w8, w16, w32, w64};
 ghost use Rattle.gate_base.specs.declared.name.Target.TheVariants.{Dns};
 ghost use Rattle.gate_entries.specs.Name.{labels_of, name_text, is_name, is_label, is_label_byte};
-ghost use Rattle.gate_entries.specs.Spelling.{entry_bytes, IsEntry, HasLabels};
+ghost use Rattle.gate_entries.specs.Spelling.{entry_bytes, IsTarget, IsEntry, HasLabels};
 ghost use Rattle.gate_entries.specs.declared.entry.Entry.{Entry as EntryValue};
 ghost use Rattle.gate_entries.specs.Reading.{Gives, Within, bytes_at, number_at, counted_at, truth_at, labels_at, name_at, v4_at, v6_at, target_at, targets_at, order_at, settings_at, what_at, kind_at, caller_at, fields_at, whole_entry, entry_of, TellsEntry};
 
