@@ -1,9 +1,9 @@
 -- What was written is read again, whatever stands behind it.
-use Rattle.std.proofs.Common.{◌≡◌, ℕ, zero, suc, ◌+◌, ◌^◌, ◌<◌, ◌≤◌, Bool, true, false, ◌&&◌, cond, eqb, ltb, List, [], ◌∷◌, ◌++◌, length, take, drop, Result, Ok, Err, refl, sym, ap, subst, ◌∙◌, append_assoc, append-nil, arith}
+use Rattle.std.proofs.Common.{◌≡◌, ℕ, suc, ◌^◌, ◌<◌, Bool, true, false, ltb, List, [], ◌∷◌, ◌++◌, length, Result, Ok, refl, sym, ap, ◌∙◌, append_assoc, append-nil, arith}
 use Rattle.std.specs.Prelude.{IsTrue}
 use Rattle.std.specs.List.{flat_map, list_all, AllByRecursion}
-use Rattle.std.specs.Int.{Width, w8, w16, w32, w64, byte_len, from_be_bytes, to_be_bytes}
-use Rattle.std.proofs.lemmas.Bool.{le-ltb, lt-ltb}
+use Rattle.std.specs.Int.{Width, w8, w16, w32, w64, byte_len, to_be_bytes}
+use Rattle.std.proofs.lemmas.Bool.{le-ltb}
 use Rattle.std.proofs.lemmas.List.{take_at, drop_at, length-append}
 use Rattle.std.proofs.lemmas.List.Concat.{flat_map-cons}
 use Rattle.gate_base.specs.declared.name.Address.TheVariants.{V4, V6}
@@ -14,8 +14,8 @@ use Rattle.gate_entries.specs.declared.entry.Entry.{Entry}
 use Rattle.gate_entries.specs.declared.entry.What.{What}
 use Rattle.gate_entries.specs.declared.entry.What.TheVariants.{Settings, Order}
 use Rattle.gate_entries.specs.Name.{name_text, labels_of, is_label, is_name}
-use Rattle.gate_entries.specs.Spelling.{counted, truth, target_bytes, targets_bytes, kind_of, what_bytes, entry_bytes, IsTarget, AreTargets, IsWhat, HasCaller, HasLabel, HasLabels, most_bytes, IsEntry}
-use Rattle.gate_entries.specs.Reading.{◌>>=◌, bytes_at, number_at, bytes_behind, counted_at, truth_at, labels_behind, labels_at, name_at, v4_at, v6_at, target_at, targets_at, order_at, settings_at, what_at, kind_at, caller_behind, caller_at, fields_at, with_no_rest, whole_entry}
+use Rattle.gate_entries.specs.Spelling.{counted, truth, target_bytes, targets_bytes, kind_of, what_bytes, entry_bytes, IsTarget, IsWhat, HasCaller, HasLabel, HasLabels, most_bytes, IsEntry}
+use Rattle.gate_entries.specs.Reading.{◌>>=◌, bytes_at, number_at, bytes_behind, counted_at, truth_at, labels_behind, labels_at, name_at, v4_at, v6_at, target_at, targets_at, order_at, settings_at, what_at, kind_at, caller_behind, caller_at, fields_at, whole_entry}
 use Rattle.gate_entries.proofs.Names.{left_holds, labels_of-name_text}
 use Rattle.gate_entries.proofs.Sizes.{name_size}
 use Rattle.gate_entries.proofs.Fields.{IsWide, wide8, wide16, wide32, wide64}

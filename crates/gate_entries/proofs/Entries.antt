@@ -1,5 +1,5 @@
 -- What is read as an entry is spelled so.
-use Rattle.std.proofs.Common.{◌≡◌, ℕ, zero, suc, ◌^◌, ◌<◌, ◌≤◌, Bool, true, false, ◌&&◌, cond, eqb, ltb, List, [], ◌∷◌, ◌++◌, length, Result, Ok, Err, refl, sym, ap, subst, ◌∙◌, append-nil, arith, ◌⊎◌, inl, inr}
+use Rattle.std.proofs.Common.{◌≡◌, ℕ, suc, ◌^◌, ◌<◌, ◌≤◌, Bool, true, false, ◌&&◌, cond, eqb, ltb, List, [], ◌∷◌, ◌++◌, length, Result, Ok, Err, refl, sym, ap, subst, ◌∙◌, append-nil, arith, ◌⊎◌, inl, inr}
 use Rattle.std.specs.List.{flat_map}
 use Rattle.std.specs.Int.{w8, w16, w32, w64, to_be_bytes}
 use Rattle.std.proofs.lemmas.Bool.{eqb-true, eq-eqb, ltb-false}
@@ -8,7 +8,7 @@ use Rattle.gate_base.specs.declared.name.Target.{Target}
 use Rattle.gate_entries.specs.declared.entry.Entry.{Entry}
 use Rattle.gate_entries.specs.declared.entry.What.{What}
 use Rattle.gate_entries.specs.declared.entry.What.TheVariants.{Settings, Order}
-use Rattle.gate_entries.specs.Spelling.{counted, truth, target_bytes, targets_bytes, kind_of, what_bytes, entry_bytes, IsWhat, HasCaller, most_bytes, IsEntry}
+use Rattle.gate_entries.specs.Spelling.{counted, target_bytes, targets_bytes, kind_of, what_bytes, entry_bytes, IsWhat, HasCaller, most_bytes, IsEntry}
 use Rattle.gate_entries.specs.Reading.{◌>>=◌, number_at, counted_at, truth_at, targets_at, order_at, settings_at, what_at, kind_at, caller_behind, caller_at, fields_at, with_no_rest, whole_entry}
 use Rattle.gate_entries.proofs.Fields.{IsBytes, IsBytes-rest, bind_ok, guard_ok, guard_met, as_made, Takes, takes_both, wide8, wide16, wide32, wide64, number_takes, counted_takes, truth_takes}
 use Rattle.gate_entries.proofs.Targets.{targets_take, chosen, only_met}

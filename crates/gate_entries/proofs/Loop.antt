@@ -1,5 +1,5 @@
 -- Reading targets one after the other, as a loop does.
-use Rattle.std.proofs.Common.{◌≡◌, ℕ, suc, ◌-◌, ◌+◌, ◌≤◌, ◌<◌, List, [], ◌∷◌, ◌++◌, Result, Ok, Err, refl, sym, ap, ◌∙◌, append_assoc, append-nil, arith}
+use Rattle.std.proofs.Common.{◌≡◌, ℕ, suc, ◌-◌, ◌+◌, ◌≤◌, ◌<◌, List, [], ◌∷◌, ◌++◌, Ok, Err, refl, sym, ap, ◌∙◌, append_assoc, append-nil, arith}
 use Rattle.gate_base.specs.declared.name.Target.{Target}
 use Rattle.gate_entries.specs.declared.fault.FieldFault.{FieldFault}
 use Rattle.gate_entries.specs.declared.fault.FieldFault.TheVariants as fields

@@ -1,5 +1,5 @@
 -- Pieces put one behind the other.
-use Rattle.std.proofs.Common.{◌≡◌, List, ◌++◌, ap, ◌∙◌}
+use Rattle.std.proofs.Common.{◌≡◌, List, ◌++◌}
 use Rattle.std.proofs.Common.{append_assoc}
 
 pub five : {A : Type 0} (out a b c d e out1 out2 out3 out4 out5 : List A) → out1 ≡ out ++ a → out2 ≡ out1 ++ b → out3 ≡ out2 ++ c → out4 ≡ out3 ++ d

@@ -1,17 +1,16 @@
 -- Names, addresses and targets that are read are those that were written.
-use Rattle.std.proofs.Common.{◌≡◌, ℕ, zero, suc, ◌^◌, ◌<◌, Bool, true, false, cond, eqb, List, [], ◌∷◌, ◌++◌, length, Result, Ok, Err, refl, sym, ap, subst, ◌∙◌, ◌⊎◌, inl, inr, arith}
+use Rattle.std.proofs.Common.{◌≡◌, ℕ, zero, suc, ◌^◌, Bool, true, false, cond, eqb, List, [], ◌∷◌, length, Result, Ok, Err, refl, sym, ap, subst, ◌⊎◌, inl, inr}
 use Rattle.std.specs.Prelude.{IsTrue}
 use Rattle.std.specs.List.{flat_map, AllByRecursion}
 use Rattle.std.specs.Int.{w8}
 use Rattle.std.proofs.lemmas.Bool.{eqb-true}
 use Rattle.std.proofs.lemmas.List.Concat.{flat_map-cons}
 use Rattle.gate_base.specs.declared.name.Address.TheVariants.{V4, V6}
-use Rattle.gate_base.specs.declared.name.Name.{Name}
 use Rattle.gate_base.specs.declared.name.Target.{Target}
 use Rattle.gate_base.specs.declared.name.Target.TheVariants.{Dns, Ip}
 use Rattle.gate_entries.specs.Name.{name_text, labels_of, is_name}
-use Rattle.gate_entries.specs.Spelling.{counted, truth, target_bytes, IsTarget}
-use Rattle.gate_entries.specs.Reading.{◌>>=◌, bytes_at, counted_at, truth_at, labels_behind, labels_at, name_at, v4_at, v6_at, target_at, targets_at}
+use Rattle.gate_entries.specs.Spelling.{counted, target_bytes, IsTarget}
+use Rattle.gate_entries.specs.Reading.{bytes_at, counted_at, truth_at, labels_behind, labels_at, name_at, v4_at, v6_at, target_at, targets_at}
 use Rattle.gate_entries.proofs.Names.{name_text-labels_of}
 use Rattle.gate_entries.proofs.Fields.{IsBytes, IsBytes-rest, bind_ok, guard_met, as_made, Takes, takes_both, takes_behind, bytes_takes, wide8, counted_takes, truth_takes}
 

@@ -1,4 +1,4 @@
-use Rattle.std.proofs.Common.{◌≡◌, ℕ, ◌<◌, ◌^◌, sym, subst, arith}
+use Rattle.std.proofs.Common.{◌<◌, ◌^◌, sym, subst, arith}
 use Rattle.gate_entries.specs.Spelling.{IsEntry}
 use Rattle.gate_entries.proofs.Sizes.{command_spelled}
 use Rattle.gate_entries.proofs.command.Command.entry.Goals as goal
