@@ -12,6 +12,3 @@ mod writing;
 pub use beginning::begin;
 pub use engine::Engine;
 pub use fault::StartFault;
-
-#[cfg(test)]
-mod tests;

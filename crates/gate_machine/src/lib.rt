@@ -9,6 +9,3 @@ mod law;
 pub use answer::{Answer, answer_command};
 pub use following::{find_kept, follows, last_moment};
 pub use law::one_entry_more;
-
-#[cfg(test)]
-mod tests;

@@ -1,7 +1,10 @@
 //! A session: one message after another is asked and answered.
+ghost use Rattle.std.specs.Prelude.{◌≡◌, ◌≤◌, false, IfOk};
+ghost use Rattle.plant.specs.Causes.{Rose};
+ghost use Rattle.plant.specs.Plant.{LeavesSigner};
 ghost use Rattle.gate_entries.specs.Command.{IsCaller};
 ghost use Rattle.gate_engine.specs.Engine.{StandsForPlant};
-ghost use Rattle.std.specs.Prelude.{IfOk};
+ghost use Rattle.gate_server.specs.Ending.{EndsSession};
 
 use crate::replying::reply_text;
 use crate::status::Status;
@@ -36,6 +39,12 @@ pub fn answer_messages<P: Plant, C: Clock, E: Entropy, S: Source, K: Sink>(
     sink: &mut K,
 ) -> Status
     requires { StandsForPlant engine.old (P.told plant.old) }
+    ensures ends { EndsSession result }
+    ensures read { result ≡ Status.ReadFault false → Rose (S.told source.old).faults (S.told source.new).faults }
+    ensures write { result ≡ Status.WriteFault → Rose (K.told sink.old).faults (K.told sink.new).faults }
+    ensures signer { LeavesSigner (P.told plant.old) (P.told plant.new) }
+    ensures later { (P.told plant.old).disk_faults ≤ (P.told plant.new).disk_faults }
+    ensures entropy { E.told entropy.new ≡ E.told entropy.old }
 {
     let Ok(caller) = account(alloc) else {
         return Status::NoMemory;
@@ -52,19 +61,31 @@ pub fn answer_messages<P: Plant, C: Clock, E: Entropy, S: Source, K: Sink>(
         };
         let reply = engine.ask(plant, clock, entropy, &caller, &command);
         match put_reply(alloc, sink, &reply) {
-            Status::Ok => {}
-            status => return status,
+            Put::Whole => {}
+            Put::Fault => return Status::WriteFault,
+            Put::NoMemory => return Status::NoMemory,
         }
     }
     Status::StreamLong
 }
 
-fn put_reply<K: Sink>(alloc: Global, sink: &mut K, reply: &Reply) -> Status {
+/// How a reply was put.
+#[derive(Clone, Copy)]
+enum Put {
+    Whole,
+    Fault,
+    NoMemory,
+}
+
+fn put_reply<K: Sink>(alloc: Global, sink: &mut K, reply: &Reply) -> Put
+    ensures fault { result ≡ Put.Fault → Rose (K.told sink.old).faults (K.told sink.new).faults }
+    ensures later { (K.told sink.old).faults ≤ (K.told sink.new).faults }
+{
     let Ok(text) = reply_text(alloc, reply) else {
-        return Status::NoMemory;
+        return Put::NoMemory;
     };
     match sink.put(text.as_bytes()) {
-        Ok(()) => Status::Ok,
-        Err(PutFault) => Status::WriteFault,
+        Ok(()) => Put::Whole,
+        Err(PutFault) => Put::Fault,
     }
 }

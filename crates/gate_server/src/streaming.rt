@@ -1,4 +1,6 @@
 //! The source's bytes, and one message after another from them.
+ghost use Rattle.std.specs.Prelude.{◌≡◌, ◌≢◌, ◌≤◌};
+ghost use Rattle.plant.specs.Causes.{Rose};
 ghost use Rattle.gate_entries.specs.Command.{IsCommand};
 ghost use Rattle.gate_server.specs.Message.{IsTaken};
 
@@ -44,6 +46,8 @@ impl Stream {
     /// The next message.
     pub fn take_message<S: Source>(&mut self, alloc: Global, source: &mut S) -> Taken
         ensures message { IsTaken result }
+        ensures fault { result ≡ Taken.Fault → Rose (S.told source.old).faults (S.told source.new).faults }
+        ensures later { (S.told source.old).faults ≤ (S.told source.new).faults }
     {
         for _ in 0..=STREAM_LIMIT {
             match find_message(alloc, &self.held) {
@@ -67,7 +71,8 @@ impl Stream {
     /// Keeps what stands behind a message.
     fn use_up(&mut self, alloc: Global, command: Command, left: usize) -> Taken
         requires { IsCommand command }
-        ensures { IsTaken result }
+        ensures message { IsTaken result }
+        ensures none { result ≢ Taken.Fault }
     {
         let used = self.held.len().saturating_sub(left);
         match Vec::from_slice(alloc, &self.held[used..]) {
@@ -80,7 +85,10 @@ impl Stream {
     }
 
     /// Takes some bytes more.
-    fn take_more<S: Source>(&mut self, source: &mut S) -> More {
+    fn take_more<S: Source>(&mut self, source: &mut S) -> More
+        ensures fault { result ≡ More.Fault → Rose (S.told source.old).faults (S.told source.new).faults }
+        ensures later { (S.told source.old).faults ≤ (S.told source.new).faults }
+    {
         if self.taken >= STREAM_LIMIT {
             return More::TooMany;
         }
