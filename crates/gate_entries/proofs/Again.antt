@@ -1,6 +1,6 @@
 -- What was written is read again, whatever stands behind it.
 use Rattle.std.proofs.Common.{◌≡◌, ℕ, suc, ◌^◌, ◌<◌, Bool, true, false, ltb, List, [], ◌∷◌, ◌++◌, length, Result, Ok, refl, sym, ap, ◌∙◌, append_assoc, append-nil, arith}
-use Rattle.std.specs.Prelude.{IsTrue}
+use Rattle.std.specs.Prelude.{IsTrue, ◌&&◌, nat_lt}
 use Rattle.std.specs.List.{flat_map, list_all, AllByRecursion}
 use Rattle.std.specs.Int.{Width, w8, w16, w32, w64, byte_len, to_be_bytes}
 use Rattle.std.proofs.lemmas.Bool.{le-ltb}
@@ -14,9 +14,9 @@ use Rattle.gate_entries.specs.declared.entry.Entry.{Entry}
 use Rattle.gate_entries.specs.declared.entry.What.{What}
 use Rattle.gate_entries.specs.declared.entry.What.TheVariants.{Settings, Order}
 use Rattle.gate_entries.specs.Name.{name_text, labels_of, is_label, is_name}
-use Rattle.gate_entries.specs.Spelling.{counted, truth, target_bytes, targets_bytes, kind_of, what_bytes, entry_bytes, IsTarget, IsWhat, HasCaller, HasLabel, HasLabels, most_bytes, IsEntry}
+use Rattle.gate_entries.specs.Spelling.{counted, truth, target_bytes, targets_bytes, kind_of, what_bytes, entry_bytes, IsTarget, IsWhat, HasCaller, most_bytes, IsEntry}
 use Rattle.gate_entries.specs.Reading.{◌>>=◌, bytes_at, number_at, bytes_behind, counted_at, truth_at, labels_behind, labels_at, name_at, v4_at, v6_at, target_at, targets_at, order_at, settings_at, what_at, kind_at, caller_behind, caller_at, fields_at, whole_entry}
-use Rattle.gate_entries.proofs.Names.{left_holds, labels_of-name_text}
+use Rattle.gate_entries.proofs.Names.{left_holds, right_holds, labels_of-name_text}
 use Rattle.gate_entries.proofs.Sizes.{name_size}
 use Rattle.gate_entries.proofs.Fields.{IsWide, wide8, wide16, wide32, wide64}
 
@@ -54,56 +54,56 @@ truth_again false rest = refl
 
 -- ---- targets
 
-cut_again : (labels : List (List ℕ)) → list_all is_label labels ≡ true → 0 < length labels → labels_of (name_text labels) ≡ labels
-cut_again [] are some = absurd (omega arith)
-cut_again (label ∷ labels) are some = labels_of-name_text label labels are
+cut_again : (labels : List (List ℕ)) → (nat_lt 0 (length labels) && list_all is_label labels) ≡ true → labels_of (name_text labels) ≡ labels
+cut_again [] are = absurd cc
+cut_again (label ∷ labels) are = labels_of-name_text label labels (right_holds _ _ are)
 
-labels_again : (wild : Bool) (labels : List (List ℕ)) (rest : List ℕ) → IsTrue (is_name wild labels) → 0 < length labels
+labels_again : (wild : Bool) (labels : List (List ℕ)) (rest : List ℕ) → IsTrue (is_name wild labels)
     → labels_at wild (counted w8 (name_text labels) ++ rest) ≡ Ok (labels, rest)
 unfolding labels_at
-labels_again wild labels rest is some =
+labels_again wild labels rest is =
     let text = name_text labels in
-    let cut : labels_of text ≡ labels = cut_again labels (left_holds _ _ is) some in
+    let cut : labels_of text ≡ labels = cut_again labels (left_holds _ _ is) in
     bind_is (counted_at w8 (counted w8 text ++ rest)) (text, rest) (labels_behind wild (length (counted w8 text ++ rest))) (Ok (labels, rest))
     (counted_again w8 (2 ^ 8) wide8 text rest (omega (arith, name_size wild labels is)))
     (rw (cut, is) refl)
 
-name_again : (name : Name) (rest : List ℕ) → IsTrue (is_name name.wild name.labels) → 0 < length name.labels
+name_again : (name : Name) (rest : List ℕ) → IsTrue (is_name name.wild name.labels)
     → name_at ((truth name.wild ++ counted w8 (name_text name.labels)) ++ rest) ≡ Ok (Dns name, rest)
 unfolding name_at
-name_again name rest is some =
+name_again name rest is =
     bind_is (truth_at (truth name.wild ++ (counted w8 (name_text name.labels) ++ rest))) (name.wild, counted w8 (name_text name.labels) ++ rest) _ (Ok (Dns name, rest))
     (truth_again name.wild (counted w8 (name_text name.labels) ++ rest))
-    (bind_is (labels_at name.wild (counted w8 (name_text name.labels) ++ rest)) (name.labels, rest) _ (Ok (Dns name, rest)) (labels_again name.wild name.labels rest is some) refl)
+    (bind_is (labels_at name.wild (counted w8 (name_text name.labels) ++ rest)) (name.labels, rest) _ (Ok (Dns name, rest)) (labels_again name.wild name.labels rest is) refl)
 
-target_again : (target : Target) (rest : List ℕ) → IsTarget target → HasLabel target → target_at (target_bytes target ++ rest) ≡ Ok (target, rest)
+target_again : (target : Target) (rest : List ℕ) → IsTarget target → target_at (target_bytes target ++ rest) ≡ Ok (target, rest)
 unfolding target_at v4_at v6_at
-target_again (Dns name) rest is some = name_again name rest is some
-target_again (Ip (V4 octets)) rest is some = bind_is (bytes_at 4 (octets ++ rest)) (octets, rest) _ (Ok (Ip (V4 octets), rest)) (bytes_again 4 octets rest is) refl
-target_again (Ip (V6 octets)) rest is some = bind_is (bytes_at 16 (octets ++ rest)) (octets, rest) _ (Ok (Ip (V6 octets), rest)) (bytes_again 16 octets rest is) refl
+target_again (Dns name) rest is = name_again name rest is
+target_again (Ip (V4 octets)) rest is = bind_is (bytes_at 4 (octets ++ rest)) (octets, rest) _ (Ok (Ip (V4 octets), rest)) (bytes_again 4 octets rest is) refl
+target_again (Ip (V6 octets)) rest is = bind_is (bytes_at 16 (octets ++ rest)) (octets, rest) _ (Ok (Ip (V6 octets), rest)) (bytes_again 16 octets rest is) refl
 
-targets_again : (targets : List Target) (rest : List ℕ) → AllByRecursion IsTarget targets → AllByRecursion HasLabel targets
+targets_again : (targets : List Target) (rest : List ℕ) → AllByRecursion IsTarget targets
     → targets_at (length targets) (flat_map target_bytes targets ++ rest) ≡ Ok (targets, rest)
 unfolding targets_at
-targets_again [] rest are some = refl
-targets_again (target ∷ targets) rest are some =
+targets_again [] rest are = refl
+targets_again (target ∷ targets) rest are =
     let behind = flat_map target_bytes targets ++ rest in
     let regrouped : flat_map target_bytes (target ∷ targets) ++ rest ≡ target_bytes target ++ behind =
     ap (λ (x : List ℕ). x ++ rest) (flat_map-cons target_bytes target targets) ∙ append_assoc (target_bytes target) (flat_map target_bytes targets) rest in
     ap (targets_at (suc (length targets))) regrouped
-    ∙ bind_is (target_at (target_bytes target ++ behind)) (target, behind) _ (Ok (target ∷ targets, rest)) (target_again target behind are.0 some.0)
-    (bind_is (targets_at (length targets) behind) (targets, rest) _ (Ok (target ∷ targets, rest)) (targets_again targets rest are.1 some.1) refl)
+    ∙ bind_is (target_at (target_bytes target ++ behind)) (target, behind) _ (Ok (target ∷ targets, rest)) (target_again target behind are.0)
+    (bind_is (targets_at (length targets) behind) (targets, rest) _ (Ok (target ∷ targets, rest)) (targets_again targets rest are.1) refl)
 
 -- ---- entries
 
 pub pieces_behind : (a b c d e rest : List ℕ) → a ++ b ++ c ++ d ++ e ++ rest ≡ a ++ (b ++ (c ++ (d ++ (e ++ rest))))
 pieces_behind a b c d e rest = simp append_assoc
 
-what_again : (what : What) (rest : List ℕ) → IsWhat what → HasLabels what → what_at (kind_of what) (what_bytes what ++ rest) ≡ Ok (what, rest)
+what_again : (what : What) (rest : List ℕ) → IsWhat what → what_at (kind_of what) (what_bytes what ++ rest) ≡ Ok (what, rest)
 unfolding what_at settings_at order_at
-what_again (Settings bytes) rest is some =
+what_again (Settings bytes) rest is =
     bind_is (counted_at w32 (counted w32 bytes ++ rest)) (bytes, rest) _ (Ok (Settings bytes, rest)) (counted_again w32 (2 ^ 32) wide32 bytes rest is) refl
-what_again (Order key common days targets request) rest is some =
+what_again (Order key common days targets request) rest is =
     let r5 = counted w16 request ++ rest in
     let r4 = flat_map target_bytes targets ++ r5 in
     let r3 = to_be_bytes w8 (length targets) ++ r4 in
@@ -117,7 +117,7 @@ what_again (Order key common days targets request) rest is some =
     (bind_is (truth_at r1) (common, r2) _ whole (truth_again common r2)
     (bind_is (number_at w16 r2) (days, r3) _ whole (number_again w16 (2 ^ 16) wide16 days r3 is.days_fit)
     (bind_is (number_at w8 r3) (length targets, r4) _ whole (number_again w8 (2 ^ 8) wide8 (length targets) r4 is.are_targets.count)
-    (bind_is (targets_at (length targets) r4) (targets, r5) _ whole (targets_again targets r5 is.are_targets.each some)
+    (bind_is (targets_at (length targets) r4) (targets, r5) _ whole (targets_again targets r5 is.are_targets.each)
     (bind_is (counted_at w16 r5) (request, rest) _ whole (counted_again w16 (2 ^ 16) wide16 request rest is.request_fits) refl)))))
 
 pub kind_again : (what : What) (rest : List ℕ) → kind_at (kind_of what ∷ rest) ≡ Ok (kind_of what, rest)
@@ -135,9 +135,9 @@ caller_again caller (Order key common days targets request) rest fits from =
     bind_is (counted_at w16 (counted w16 caller ++ rest)) (caller, rest) (caller_behind 2 (length (counted w16 caller ++ rest))) (Ok (caller, rest))
     (counted_again w16 (2 ^ 16) wide16 caller rest fits) refl
 
-fields_again : (entry : Entry) → IsEntry entry → HasLabels entry.what → fields_at (entry_bytes entry) ≡ Ok (entry, [])
+fields_again : (entry : Entry) → IsEntry entry → fields_at (entry_bytes entry) ≡ Ok (entry, [])
 unfolding fields_at entry_bytes
-fields_again entry is some =
+fields_again entry is =
     let what = entry.what in
     let r4 = what_bytes what ++ [] in
     let r3 = counted w16 entry.caller ++ r4 in
@@ -151,10 +151,10 @@ fields_again entry is some =
     (bind_is (number_at w64 r1) (entry.number, r2) _ whole (number_again w64 (2 ^ 64) wide64 entry.number r2 is.number)
     (bind_is (number_at w64 r2) (entry.moment.0, r3) _ whole (number_again w64 (2 ^ 64) wide64 entry.moment.0 r3 is.moment)
     (bind_is (caller_at (kind_of what) r3) (entry.caller, r4) _ whole (caller_again entry.caller what r4 is.caller is.from)
-    (bind_is (what_at (kind_of what) r4) (what, []) _ whole (what_again what [] is.what some) refl))))
+    (bind_is (what_at (kind_of what) r4) (what, []) _ whole (what_again what [] is.what) refl))))
 
-pub entry_again : (entry : Entry) → IsEntry entry → HasLabels entry.what → whole_entry (entry_bytes entry) ≡ Ok entry
+pub entry_again : (entry : Entry) → IsEntry entry → whole_entry (entry_bytes entry) ≡ Ok entry
 unfolding whole_entry
-entry_again entry is some =
+entry_again entry is =
     let fits : ltb most_bytes (length (entry_bytes entry)) ≡ false = le-ltb _ _ is.size in
-    rw (fits, fields_again entry is some) refl
+    rw (fits, fields_again entry is) refl

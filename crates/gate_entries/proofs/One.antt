@@ -13,7 +13,7 @@ use Rattle.gate_entries.specs.declared.entry.What.TheVariants.{Settings, Order}
 use Rattle.gate_entries.specs.Name.{name_text, is_name}
 use Rattle.gate_entries.specs.Spelling.{counted, truth, target_bytes, targets_bytes, kind_of, what_bytes, entry_bytes, IsTarget, IsWhat, IsEntry}
 use Rattle.gate_entries.specs.Reading.{bytes_at, number_at, counted_at, truth_at}
-use Rattle.gate_entries.proofs.Names.{left_holds, one_text}
+use Rattle.gate_entries.proofs.Names.{left_holds, right_holds, one_text}
 use Rattle.gate_entries.proofs.Sizes.{name_size}
 use Rattle.gate_entries.proofs.Fields.{IsWide, ok_is, wide8, wide16, wide32, wide64}
 use Rattle.gate_entries.proofs.Again.{bytes_again, number_again, counted_again, truth_again, pieces_behind}
@@ -53,7 +53,7 @@ one_name left right s t is1 is2 same =
     let size1 = name_size left.wild left.labels is1 in
     let size2 = name_size right.wild right.labels is2 in
     let text = one_counted w8 (2 ^ 8) wide8 (name_text left.labels) (name_text right.labels) s t (omega (arith, size1)) (omega (arith, size2)) wild.1 in
-    let labels = one_text left.labels right.labels (left_holds _ _ is1) (left_holds _ _ is2) text.0 in
+    let labels = one_text left.labels right.labels (right_holds _ _ (left_holds _ _ is1)) (right_holds _ _ (left_holds _ _ is2)) text.0 in
     let made : Bool → List (List ℕ) → Name = λ (w : Bool) (l : List (List ℕ)). record { labels = l; wild = w } in
     (ap (λ (w : Bool). made w left.labels) wild.0 ∙ ap (λ (l : List (List ℕ)). made right.wild l) labels, text.1)
 

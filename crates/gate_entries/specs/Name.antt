@@ -25,6 +25,6 @@ is_label_byte byte = (nat_le 97 byte && nat_le byte 122) || (nat_le 48 byte && n
 abbrev pub is_label : List ℕ → Bool
 is_label label = nat_lt 0 (length label) && nat_le (length label) 63 && list_all is_label_byte label
 
--- such labels; with the `*.` of a wildcard at most 253 bytes
+-- at least one such label; with the `*.` of a wildcard at most 253 bytes
 abbrev pub is_name : Bool → List (List ℕ) → Bool
-is_name wild labels = list_all is_label labels && nat_le (length (name_text labels)) (if wild then 251 else 253)
+is_name wild labels = nat_lt 0 (length labels) && list_all is_label labels && nat_le (length (name_text labels)) (if wild then 251 else 253)

@@ -86,13 +86,3 @@ pub record IsEntry (entry : Entry) : Type 0 where
   pub from : HasCaller entry.caller entry.what
   pub what : IsWhat entry.what
   pub size : length (entry_bytes entry) ≤ most_bytes
-
--- a name has a label
-abbrev pub HasLabel : Target → Type 0
-HasLabel (Dns name) = 0 < length name.labels
-HasLabel (Ip address) = Unit {0}
-
--- so does each name that was ordered
-abbrev pub HasLabels : What → Type 0
-HasLabels (Settings bytes) = Unit {0}
-HasLabels (Order key common days targets request) = AllByRecursion HasLabel targets

@@ -3,7 +3,7 @@ ghost use Rattle.std.specs.List.{list_all};
 ghost use Rattle.std.specs.Int.{w8, w16, w32, w64};
 ghost use Rattle.gate_base.specs.declared.name.Target.TheVariants.{Dns};
 ghost use Rattle.gate_entries.specs.Name.{labels_of, name_text, is_name, is_label, is_label_byte};
-ghost use Rattle.gate_entries.specs.Spelling.{entry_bytes, IsTarget, IsEntry, HasLabels};
+ghost use Rattle.gate_entries.specs.Spelling.{entry_bytes, IsTarget, IsEntry};
 ghost use Rattle.gate_entries.specs.declared.entry.Entry.{Entry as EntryValue};
 ghost use Rattle.gate_entries.specs.Reading.{Gives, Within, bytes_at, number_at, counted_at, truth_at, labels_at, name_at, v4_at, v6_at, target_at, targets_at, order_at, settings_at, what_at, kind_at, caller_at, fields_at, whole_entry, entry_of, TellsEntry};
 
@@ -22,8 +22,8 @@ pub fn read_entry(alloc: Global, bytes: &[u8]) -> Result<Entry, EntryRead>
     ensures exact { TellsEntry (entry_of bytes.now) result }
     // What is read is spelled so.
     ensures found { IfOk result (λ entry. IsEntry entry × (bytes.now ≡ entry_bytes entry)) }
-    // What is spelled so is read, unless memory runs out. A name without labels is none, and is not read.
-    ensures only { (entry : EntryValue) → IsEntry entry → HasLabels entry.what → bytes.now ≡ entry_bytes entry → TellsEntry (Ok entry) result }
+    // What is spelled so is read, unless memory runs out.
+    ensures only { (entry : EntryValue) → IsEntry entry → bytes.now ≡ entry_bytes entry → TellsEntry (Ok entry) result }
 {
     match read_whole(alloc, bytes) {
         Ok(entry) => Ok(entry),
@@ -380,7 +380,7 @@ fn is_name(wild: bool, labels: &Labels, size: usize) -> bool
     ensures { result ≡ is_name wild labels.now }
 {
     let most = if wild { 251 } else { 253 };
-    are_labels(labels.as_slice()) && size <= most
+    0 < labels.len() && are_labels(labels.as_slice()) && size <= most
 }
 
 fn are_labels(labels: &[Bytes]) -> bool
