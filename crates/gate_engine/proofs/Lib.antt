@@ -1,3 +1,5 @@
 pub mod Sizes
 pub mod Starts
 pub mod Stands
+pub mod Steps
+pub mod Histories

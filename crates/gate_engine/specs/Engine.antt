@@ -1,20 +1,26 @@
 -- What an engine keeps, and when it stands for a plant.
-use Rattle.std.specs.Prelude.{◌≡◌, ℕ, List, ◌++◌, map, Option, None, is_some, IfSome, Result, Ok, Err}
+use Rattle.std.specs.Prelude.{◌≡◌, ◌≢◌, ℕ, ◌<◌, ◌≤◌, ◌⊎◌, List, [], ◌∷◌, ◌++◌, length, take, map, Option, None, is_some, option_to_list, IfSome}
+use Rattle.gate_base.specs.declared.moment.Moment.{Moment}
 use Rattle.plant.specs.Plant.{PlantTold}
 use Rattle.plant.specs.Clock.{ClockTold}
 use Rattle.journal_core.specs.declared.fault.MountFault.{MountFault}
 use Rattle.journal_core.specs.declared.fault.MountFault.TheVariants as mounts
 use Rattle.gate_engine.specs.declared.fault.StartFault.{StartFault}
 use Rattle.gate_engine.specs.declared.fault.StartFault.TheVariants as starts
-use Rattle.journal_core.specs.Journal.{StandsFor, JournalState}
+use Rattle.journal_core.specs.Journal.{head, IsJournal, BreaksAt, StandsFor, JournalState}
 use Rattle.gate_entries.specs.declared.entry.Entry.{Entry}
 use Rattle.gate_entries.specs.Spelling.{entry_bytes}
-use Rattle.gate_machine.specs.History.{journal_size, Follows, Legal}
+use Rattle.gate_entries.specs.Command.{settings_entry}
+use Rattle.gate_machine.specs.History.{journal_size, Follows, EachFollows, Legal}
 use Rattle.gate_machine.specs.Step.{Held, State}
 
 -- what the records of a history's journal hold
 abbrev pub payloads_of : List Entry → List (List ℕ)
 payloads_of history = map entry_bytes history
+
+-- the history that a journal begins with: settings without bytes, at this moment
+abbrev pub first_history : Moment → List Entry
+first_history moment = settings_entry 1 moment [] ∷ []
 
 -- the history is legal, the journal ends where the history's does, and is broken just where an entry is loose
 pub record Sound (journal : JournalState) (history : List Entry) (loose : Option Entry) : Type 0 where
@@ -29,6 +35,62 @@ StandsForPlant held told = held.loose ≡ None → StandsFor (payloads_of held.h
 
 abbrev pub state_of : Held → PlantTold → ClockTold → State
 state_of held told clock = record { held = held; disk_faults = told.disk_faults; clock = clock }
+
+-- the payloads are a history up to this place, and the next one is no entry that may come behind it
+pub record StraysAt (payloads : List (List ℕ)) (at : ℕ) : Type 0 where
+  pub before : List Entry
+  pub payload : List ℕ
+  pub rest : List (List ℕ)
+  pub split : payloads ≡ payloads_of before ++ payload ∷ rest
+  pub each : EachFollows [] before
+  pub place : at ≡ journal_size before
+  pub stray : (entry : Entry) → Follows before entry → payload ≢ entry_bytes entry
+
+-- there are no payloads, or one of them is the first that is no entry which may come behind those before it
+abbrev pub IsIllegalAt : List (List ℕ) → ℕ → Type 0
+IsIllegalAt payloads at = ((payloads ≡ []) × (at ≡ 16)) ⊎ StraysAt payloads at
+
+-- the bytes are the journal of payloads that are no legal history
+pub record IsOfNoHistory (bytes : List ℕ) (at : ℕ) : Type 0 where
+  pub payloads : List (List ℕ)
+  pub journal : IsJournal payloads bytes
+  pub illegal : IsIllegalAt payloads at
+
+-- the bytes begin as a journal does and are longer than any
+pub record IsTooLong (bytes : List ℕ) (at : ℕ) : Type 0 where
+  pub begun : take 16 bytes ≡ head
+  pub long : 67108864 < length bytes
+  pub place : at ≡ 67108864
+
+-- the bytes break off inside a record
+pub record BreaksOff (bytes : List ℕ) (at : ℕ) : Type 0 where
+  pub fits : length bytes ≤ 67108864
+  pub breaks : BreaksAt bytes at
+
+-- the bytes begin as a journal does and are no legal one, from this place on
+abbrev pub IsBadAt : List ℕ → ℕ → Type 0
+IsBadAt bytes at = IsTooLong bytes at ⊎ BreaksOff bytes at ⊎ IsOfNoHistory bytes at
+
+-- what a refused start tells of the bytes. Memory is wanted only for bytes that begin as a journal does and aren't too long
+abbrev pub RefusesStart : StartFault → List ℕ → Type 0
+RefusesStart starts.NotBegun bytes = take 16 bytes ≢ head
+RefusesStart (starts.JournalBad at) bytes = IsBadAt bytes at
+RefusesStart starts.Disk bytes = Unit {0}
+RefusesStart starts.NoMemory bytes = (take 16 bytes ≡ head) × (length bytes ≤ 67108864)
+
+-- a history that is neither the gate's nor this followed by the loose entry
+abbrev pub IsOther : Held → List Entry → Type 0
+IsOther held history = (history ≢ held.history) × (history ≢ held.history ++ option_to_list held.loose)
+
+-- the bytes are the journal of such a history
+pub record IsOfAnother (held : Held) (bytes : List ℕ) : Type 0 where
+  pub history : List Entry
+  pub journal : IsJournal (payloads_of history) bytes
+  pub other : IsOther held history
+
+-- why a gate doesn't take up what the disk holds, and the place that is told
+abbrev pub IsForeign : Held → ℕ → List ℕ → Type 0
+IsForeign held at bytes = ((take 16 bytes ≢ head) × (at ≡ 0)) ⊎ IsBadAt bytes at ⊎ (IsOfAnother held bytes × (at ≡ 16))
 
 -- what a fault of the mount is for a start
 abbrev pub IsStartFault : MountFault → StartFault → Type 0

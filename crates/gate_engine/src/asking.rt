@@ -1,10 +1,13 @@
 //! How a command is asked.
-ghost use Rattle.std.specs.Prelude.{◌≡◌, ◌≢◌, ◌≤◌, ◌↔◌, ◌⊎◌, ◌++◌, None, OnOk, OnErr, IfOk, IsTrue, option_to_list};
+ghost use Rattle.std.specs.Prelude.{◌≡◌, ◌≢◌, ℕ, ◌≤◌, ◌↔◌, ◌⊎◌, ◌++◌, None, OnOk, OnErr, IfOk, IfErr, IsErrOf, IsTrue, IsFalse, option_to_list};
+ghost use Rattle.std.specs.Option.{ForSome};
+ghost use Rattle.plant.specs.Causes.{Rose};
 ghost use Rattle.plant.specs.Plant.{LeavesSigner};
 ghost use Rattle.gate_entries.specs.Command.{IsCommand, IsCaller};
 ghost use Rattle.gate_machine.specs.History.{Follows};
 ghost use Rattle.gate_machine.specs.Answer.{Answers, IsReady};
-ghost use Rattle.gate_engine.specs.Engine.{StandsForPlant};
+ghost use Rattle.gate_machine.specs.Step.{Holds, Settles, EndsRemount, Acts, Goes, Step};
+ghost use Rattle.gate_engine.specs.Engine.{StandsForPlant, IsForeign, IsOther, state_of};
 
 use crate::engine::Engine;
 use crate::fault::{StartFault, WriteFault};
@@ -20,6 +23,7 @@ const FIRST_RECORD: u64 = 16;
 
 impl Engine {
     /// Answers one command. Where an entry is loose, since its commit failed, the journal is mounted again first.
+    #[tactic(auto, using(crate::proofs::Steps::goes_settled, crate::proofs::Steps::goes_nowhere))]
     pub fn ask<P: Plant, C: Clock, E: Entropy>(
         &mut self,
         plant: &mut P,
@@ -31,9 +35,12 @@ impl Engine {
         requires stands { StandsForPlant self.old (P.told plant.old) }
         requires caller { IsCaller caller.now }
         requires command { IsCommand command.now }
+        ensures step { Step (state_of self.old (P.told plant.old) (C.told clock.old)) caller.now command.now result
+            (state_of self.new (P.told plant.new) (C.told clock.new)) }
+        // What the disk holds is told as foreign only where it is, and then nothing is taken up.
+        ensures foreign { (at : ℕ) → result ≡ Reply.JournalBad at → ForSome (P.told plant.old).bytes (IsForeign self.old at) }
         ensures stands { StandsForPlant self.new (P.told plant.new) }
         ensures signer { LeavesSigner (P.told plant.old) (P.told plant.new) }
-        ensures later { (P.told plant.old).disk_faults ≤ (P.told plant.new).disk_faults }
         ensures entropy { E.told _entropy.new ≡ E.told _entropy.old }
     {
         match self.settle(plant) {
@@ -46,6 +53,12 @@ impl Engine {
     fn settle<P: Plant>(&mut self, plant: &mut P) -> Result<(), Reply>
         requires { StandsForPlant self.old (P.told plant.old) }
         ensures settled { OnOk result (self.new.loose ≡ None) }
+        ensures settles { OnOk result (Settles self.old self.new.history) }
+        ensures some { OnErr result (self.old.loose ≢ None) }
+        ensures kept { OnErr result (self.new ≡ self.old) }
+        ensures ends { IfErr result EndsRemount }
+        ensures foreign { IfErr result (λ reply. (at : ℕ) → reply ≡ Reply.JournalBad at → ForSome (P.told plant.old).bytes (IsForeign self.old at)) }
+        ensures disk { IsErrOf result Reply.DiskFault → Rose (P.told plant.old).disk_faults (P.told plant.new).disk_faults }
         ensures stands { StandsForPlant self.new (P.told plant.new) }
         ensures signer { LeavesSigner (P.told plant.old) (P.told plant.new) }
         ensures later { (P.told plant.old).disk_faults ≤ (P.told plant.new).disk_faults }
@@ -66,7 +79,11 @@ impl Engine {
     fn remount<P: Plant>(&mut self, plant: &mut P) -> Result<(), Reply>
         requires { self.old.loose ≢ None }
         ensures settled { OnOk result (self.new.loose ≡ None) }
+        ensures settles { OnOk result (Settles self.old self.new.history) }
         ensures kept { OnErr result (self.new ≡ self.old) }
+        ensures ends { IfErr result EndsRemount }
+        ensures foreign { IfErr result (λ reply. (at : ℕ) → reply ≡ Reply.JournalBad at → ForSome (P.told plant.old).bytes (IsForeign self.old at)) }
+        ensures disk { IsErrOf result Reply.DiskFault → Rose (P.told plant.old).disk_faults (P.told plant.new).disk_faults }
         ensures stands { StandsForPlant self.new (P.told plant.new) }
         ensures signer { LeavesSigner (P.told plant.old) (P.told plant.new) }
         ensures later { (P.told plant.old).disk_faults ≤ (P.told plant.new).disk_faults }
@@ -88,11 +105,13 @@ impl Engine {
 
     /// Whether another engine has this history, or this one with the loose entry behind it.
     fn may_become(&self, found: &Engine) -> bool
-        ensures { IsTrue result → (found.now.history ≡ self.now.history) ⊎ (found.now.history ≡ self.now.history ++ option_to_list self.now.loose) }
+        ensures same { IsTrue result → Settles self.now found.now.history }
+        ensures other { IsFalse result → IsOther self.now found.now.history }
     {
         comes_from(&self.history, &self.loose, &found.history)
     }
 
+    #[tactic(auto, using(crate::proofs::Steps::goes_read, crate::proofs::Steps::goes_unread))]
     fn ask_settled<P: Plant, C: Clock>(
         &mut self,
         plant: &mut P,
@@ -104,6 +123,9 @@ impl Engine {
         requires stands { StandsForPlant self.old (P.told plant.old) }
         requires caller { IsCaller caller.now }
         requires command { IsCommand command.now }
+        ensures goes { Goes self.old.history (C.told clock.old) (C.told clock.new) caller.now command.now result self.new }
+        ensures foreign { (at : ℕ) → result ≢ Reply.JournalBad at }
+        ensures disk { result ≡ Reply.DiskFault → Rose (P.told plant.old).disk_faults (P.told plant.new).disk_faults }
         ensures stands { StandsForPlant self.new (P.told plant.new) }
         ensures signer { LeavesSigner (P.told plant.old) (P.told plant.new) }
         ensures later { (P.told plant.old).disk_faults ≤ (P.told plant.new).disk_faults }
@@ -115,6 +137,7 @@ impl Engine {
     }
 
     /// Says the answer over a reading, or writes its entry.
+    #[tactic(auto, using(crate::proofs::Steps::acts_said, crate::proofs::Steps::acts_wrote))]
     fn act<P: Plant>(
         &mut self,
         plant: &mut P,
@@ -126,6 +149,8 @@ impl Engine {
         requires stands { StandsForPlant self.old (P.told plant.old) }
         requires caller { IsCaller caller.now }
         requires command { IsCommand command.now }
+        ensures acts { Acts self.old.history caller.now command.now reading result self.new }
+        ensures disk { result ≡ Reply.DiskFault → Rose (P.told plant.old).disk_faults (P.told plant.new).disk_faults }
         ensures stands { StandsForPlant self.new (P.told plant.new) }
         ensures signer { LeavesSigner (P.told plant.old) (P.told plant.new) }
         ensures later { (P.told plant.old).disk_faults ≤ (P.told plant.new).disk_faults }
@@ -156,7 +181,7 @@ impl Engine {
 
 /// Whether a history is this one, or this one with the loose entry behind it.
 fn comes_from(history: &[Entry], loose: &Option<Entry>, found: &[Entry]) -> bool
-    ensures { IsTrue result → (found.now ≡ history.now) ⊎ (found.now ≡ history.now ++ option_to_list loose.now) }
+    ensures { IsTrue result ↔ (found.now ≡ history.now) ⊎ (found.now ≡ history.now ++ option_to_list loose.now) }
 {
     if are_same(found, history) {
         return true;

@@ -1,9 +1,14 @@
 //! How a journal begins.
 ghost use Rattle.std.specs.Prelude.{◌≡◌, ◌≢◌, ℕ, ◌≤◌, [], length, IfOk, IsErrOf, OnOk};
 ghost use Rattle.plant.specs.Causes.{Rose};
-ghost use Rattle.std.specs.Option.{ForSome};
+ghost use Rattle.std.specs.Option.{ForSome, option_map};
 ghost use Rattle.plant.specs.Plant.{LeavesSigner};
-ghost use Rattle.journal_core.specs.Journal.{IsPayload};
+ghost use Rattle.journal_core.specs.Journal.{IsPayload, StandsFor, journal_of};
+ghost use Rattle.gate_entries.specs.Spelling.{entry_bytes, IsEntry};
+ghost use Rattle.gate_entries.specs.Command.{settings_entry};
+ghost use Rattle.gate_machine.specs.History.{Legal};
+ghost use Rattle.gate_machine.specs.Answer.{IsInRange};
+ghost use Rattle.gate_engine.specs.Engine.{payloads_of, first_history};
 
 use gate_base::{Moment, NoMemory};
 use gate_entries::{Entry, write_entry};
@@ -13,9 +18,14 @@ use std::alloc::Global;
 
 /// Begins a journal on an empty disk, with the settings that hold from this moment on. They are empty so far.
 pub fn begin<P: Plant>(alloc: Global, plant: &mut P, moment: Moment) -> Result<(), BeginFault>
+    ensures ok { OnOk result ((P.told plant.new).bytes ≡ option_map (λ _. journal_of (payloads_of (first_history moment))) (P.told plant.old).bytes) }
+    ensures stands { OnOk result (StandsFor (payloads_of (first_history moment)) (P.told plant.new).bytes) }
+    ensures legal { OnOk result (IsInRange moment.0 → Legal (first_history moment)) }
     ensures empty { OnOk result (ForSome (P.told plant.old).bytes (λ bytes. bytes ≡ [])) }
     ensures not_empty { (count : ℕ) → IsErrOf result (BeginFault.NotEmpty count) → ForSome (P.told plant.old).bytes (λ bytes. length bytes ≡ count) }
+    ensures some { (count : ℕ) → IsErrOf result (BeginFault.NotEmpty count) → 1 ≤ count }
     ensures kept { ForSome (P.told plant.old).bytes (λ bytes. bytes ≢ [] → (P.told plant.new).bytes ≡ (P.told plant.old).bytes) }
+    ensures memory { IsErrOf result BeginFault.NoMemory → (P.told plant.new).bytes ≡ (P.told plant.old).bytes }
     ensures disk { IsErrOf result BeginFault.Disk → Rose (P.told plant.old).disk_faults (P.told plant.new).disk_faults }
     ensures later { (P.told plant.old).disk_faults ≤ (P.told plant.new).disk_faults }
     ensures signer { LeavesSigner (P.told plant.old) (P.told plant.new) }
@@ -29,7 +39,9 @@ pub fn begin<P: Plant>(alloc: Global, plant: &mut P, moment: Moment) -> Result<(
 
 /// What the first record holds.
 fn settings_payload(alloc: Global, moment: Moment) -> Result<Vec<u8>, NoMemory>
-    ensures { IfOk result (λ payload. IsPayload payload.items) }
+    ensures spelled { IfOk result (λ payload. payload.items ≡ entry_bytes (settings_entry 1 moment [])) }
+    ensures entry { IfOk result (λ _. IsEntry (settings_entry 1 moment [])) }
+    ensures payload { IfOk result (λ payload. IsPayload payload.items) }
 {
     let entry = Entry::settings(alloc, 1, moment, &[])?;
     let mut payload = Vec::new(alloc);

@@ -1,13 +1,16 @@
 //! How payloads become a history.
-ghost use Rattle.std.specs.Prelude.{◌≡◌, [], IfOk};
+ghost use Rattle.std.specs.Prelude.{◌≡◌, ◌≢◌, ◌≤◌, ◌+◌, ℕ, [], length, sum_by, IfOk, IsErrOf};
+ghost use Rattle.journal_core.specs.Journal.{journal_of};
+ghost use Rattle.gate_entries.specs.declared.entry.Entry.{Entry as EntryValue};
 ghost use Rattle.gate_entries.specs.Spelling.{entry_bytes};
 ghost use Rattle.gate_machine.specs.History.{Legal, EachFollows, Follows};
-ghost use Rattle.gate_engine.specs.Engine.{payloads_of};
+ghost use Rattle.gate_engine.specs.Engine.{payloads_of, StraysAt, IsIllegalAt};
 
 use crate::fault::ReplayFault;
 use gate_base::{Bytes, Payloads};
 use gate_entries::{Entry, EntryRead, read_entry};
 use gate_machine::{follows, one_entry_more};
+use journal_core::one_record_more;
 use std::alloc::Global;
 
 /// Where the first record lies.
@@ -15,9 +18,12 @@ const FIRST_RECORD: u64 = 16;
 
 /// The history that the payloads are; or the place of the first record that may not come behind those before it.
 pub fn replay(alloc: Global, payloads: &Payloads) -> Result<Vec<Entry>, ReplayFault>
+    requires { length (journal_of payloads.now) ≤ 67_108_864 }
     ensures payloads { IfOk result (λ history. payloads.now ≡ payloads_of history.items) }
     ensures legal { IfOk result (λ history. Legal history.items) }
+    ensures illegal { (at : ℕ) → IsErrOf result (ReplayFault.Illegal at) → IsIllegalAt payloads.now at }
 {
+    one_record_more();
     let history = replay_each(alloc, payloads.as_slice())?;
     if history.is_empty() {
         return Err(ReplayFault::Illegal { at: FIRST_RECORD });
@@ -27,16 +33,20 @@ pub fn replay(alloc: Global, payloads: &Payloads) -> Result<Vec<Entry>, ReplayFa
 
 /// The entries that the payloads spell, each of which may come behind those before it.
 fn replay_each(alloc: Global, payloads: &[Bytes]) -> Result<Vec<Entry>, ReplayFault>
+    requires { 16 + sum_by (λ payload. 4 + length payload) payloads.now ≤ 67_108_864 }
     ensures payloads { IfOk result (λ history. payloads.now ≡ payloads_of history.items) }
     ensures each { IfOk result (λ history. EachFollows [] history.items) }
+    ensures illegal { (at : ℕ) → IsErrOf result (ReplayFault.Illegal at) → StraysAt payloads.now at }
 {
+    one_entry_more();
     let mut history = Vec::new(alloc);
     let mut at = FIRST_RECORD;
-    for payload in payloads {
+    let mut rest = payloads;
+    while let [payload, after @ ..] = rest {
         let entry = next_entry(alloc, &history, payload, at)?;
-        one_entry_more();
         history.push(entry)?;
         at = at.saturating_add(payload.len() as u64).saturating_add(4);
+        rest = after;
     }
     Ok(history)
 }
@@ -50,6 +60,8 @@ fn next_entry(
 ) -> Result<Entry, ReplayFault>
     ensures spelled { IfOk result (λ entry. payload.now ≡ entry_bytes entry) }
     ensures follows { IfOk result (λ entry. Follows before.now entry) }
+    ensures place { (place : ℕ) → IsErrOf result (ReplayFault.Illegal place) → place ≡ at }
+    ensures stray { (place : ℕ) → IsErrOf result (ReplayFault.Illegal place) → (entry : EntryValue) → Follows before.now entry → payload.now ≢ entry_bytes entry }
 {
     match read_entry(alloc, payload.as_slice()) {
         Ok(entry) => {

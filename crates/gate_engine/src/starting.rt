@@ -1,18 +1,18 @@
 //! How an engine starts from what the disk holds.
-ghost use Rattle.std.specs.Prelude.{◌≡◌, ◌≢◌, ◌≤◌, [], take, length, None, false, IfOk, IsErrOf};
+ghost use Rattle.std.specs.Prelude.{◌≡◌, ◌≤◌, ℕ, List, [], length, None, false, IfOk, IfErr, IsErrOf};
 ghost use Rattle.std.specs.Option.{ForSome};
 ghost use Rattle.plant.specs.Causes.{Rose};
 ghost use Rattle.plant.specs.Plant.{LeavesSigner};
-ghost use Rattle.journal_core.specs.Journal.{head, journal_of};
+ghost use Rattle.journal_core.specs.Journal.{journal_of, IsJournal};
 ghost use Rattle.gate_machine.specs.History.{Legal};
-ghost use Rattle.gate_engine.specs.Engine.{payloads_of, StandsForPlant, IsStartFault};
+ghost use Rattle.gate_engine.specs.Engine.{payloads_of, StandsForPlant, RefusesStart, IsStartFault};
 
 use crate::engine::Engine;
 use crate::fault::{ReplayFault, StartFault};
 use crate::replaying::replay;
 use gate_base::Payloads;
 use gate_entries::Entry;
-use journal_core::{Journal, MountFault, one_record_more};
+use journal_core::{Journal, MountFault, one_reading, one_record_more};
 use plant::{Clock, MAX_BYTES, Plant};
 use std::alloc::Global;
 
@@ -28,7 +28,7 @@ impl Engine {
         ensures settled { IfOk result (λ engine. engine.loose ≡ None) }
         ensures legal { IfOk result (λ engine. Legal engine.history) }
         ensures stands { IfOk result (λ engine. StandsForPlant engine (P.told plant.new)) }
-        ensures not_begun { IsErrOf result StartFault.NotBegun → ForSome (P.told plant.old).bytes (λ bytes. take 16 bytes ≢ head) }
+        ensures refused { IfErr result (λ fault. ForSome (P.told plant.old).bytes (λ bytes. RefusesStart fault bytes)) }
         ensures disk { IsErrOf result StartFault.Disk → Rose (P.told plant.old).disk_faults (P.told plant.new).disk_faults }
         ensures later { (P.told plant.old).disk_faults ≤ (P.told plant.new).disk_faults }
         ensures bytes { (P.told plant.new).bytes ≡ (P.told plant.old).bytes }
@@ -44,18 +44,32 @@ pub fn open<P: Plant>(alloc: Global, plant: &mut P) -> Result<Engine, StartFault
     ensures settled { IfOk result (λ engine. engine.loose ≡ None) }
     ensures legal { IfOk result (λ engine. Legal engine.history) }
     ensures stands { IfOk result (λ engine. StandsForPlant engine (P.told plant.new)) }
-    ensures not_begun { IsErrOf result StartFault.NotBegun → ForSome (P.told plant.old).bytes (λ bytes. take 16 bytes ≢ head) }
+    ensures refused { IfErr result (λ fault. ForSome (P.told plant.old).bytes (λ bytes. RefusesStart fault bytes)) }
     ensures disk { IsErrOf result StartFault.Disk → Rose (P.told plant.old).disk_faults (P.told plant.new).disk_faults }
     ensures later { (P.told plant.old).disk_faults ≤ (P.told plant.new).disk_faults }
     ensures bytes { (P.told plant.new).bytes ≡ (P.told plant.old).bytes }
     ensures signer { LeavesSigner (P.told plant.old) (P.told plant.new) }
 {
-    let (journal, payloads) = match Journal::mount(alloc, plant) {
-        Ok(mounted) => mounted,
-        Err(fault) => return Err(start_fault(fault)),
-    };
-    match replay(alloc, &payloads) {
-        Ok(history) => Ok(made(alloc, journal, &payloads, history)),
+    match Journal::mount(alloc, plant) {
+        Ok((journal, payloads)) => replayed(alloc, journal, &payloads),
+        Err(fault) => Err(start_fault(fault)),
+    }
+}
+
+/// An engine over a mounted journal.
+fn replayed(alloc: Global, journal: Journal, payloads: &Payloads) -> Result<Engine, StartFault>
+    requires sound { journal.broken ≡ false }
+    requires size { journal.end ≡ length (journal_of payloads.now) }
+    requires fits { journal.end ≤ 67_108_864 }
+    ensures settled { IfOk result (λ engine. engine.loose ≡ None) }
+    ensures legal { IfOk result (λ engine. Legal engine.history) }
+    ensures payloads { IfOk result (λ engine. payloads.now ≡ payloads_of engine.history) }
+    ensures refused { IfErr result (λ fault. (bytes : List ℕ) → IsJournal payloads.now bytes → RefusesStart fault bytes) }
+    ensures disk { IsErrOf result StartFault.Disk → ⊥ }
+{
+    one_reading();
+    match replay(alloc, payloads) {
+        Ok(history) => Ok(made(alloc, journal, payloads, history)),
         Err(ReplayFault::Illegal { at }) => Err(StartFault::JournalBad { at }),
         Err(ReplayFault::NoMemory) => Err(StartFault::NoMemory),
     }

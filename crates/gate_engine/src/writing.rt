@@ -6,6 +6,7 @@ ghost use Rattle.plant.specs.Plant.{LeavesSigner};
 ghost use Rattle.journal_core.specs.Journal.{StandsFor};
 ghost use Rattle.gate_entries.specs.Spelling.{entry_bytes, IsEntry};
 ghost use Rattle.gate_machine.specs.History.{Follows, journal_size, record_size};
+ghost use Rattle.gate_machine.specs.Step.{Wrote};
 ghost use Rattle.gate_engine.specs.Engine.{StandsForPlant};
 
 use crate::engine::Engine;
@@ -68,6 +69,8 @@ impl Engine {
         requires stands { StandsForPlant self.old (P.told plant.old) }
         requires follows { Follows self.old.history entry }
         requires room { journal_size self.old.history + record_size entry ≤ 67_108_864 }
+        ensures wrote { Wrote self.old.history entry result self.new }
+        ensures disk { result ≡ Reply.DiskFault → Rose (P.told plant.old).disk_faults (P.told plant.new).disk_faults }
         ensures stands { StandsForPlant self.new (P.told plant.new) }
         ensures signer { LeavesSigner (P.told plant.old) (P.told plant.new) }
         ensures later { (P.told plant.old).disk_faults ≤ (P.told plant.new).disk_faults }

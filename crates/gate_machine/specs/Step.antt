@@ -48,12 +48,26 @@ pub record Acted (history : List Entry) (caller : Caller) (command : Command) (r
   pub answers : Answers history caller command reading answer
   pub does : Does answer history reply new
 
+-- an entry was to be written: it is committed, or the disk failed and it is loose, or memory was wanted
+pub record Waits (history : List Entry) (entry : Entry) (new : Held) : Type 0 where
+  pub same : new.history ≡ history
+  pub loose : new.loose ≡ Some entry
+
+abbrev pub Wrote : List Entry → Entry → Reply → Held → Type 0
+Wrote history entry (Placed order) new = Commits history entry (Placed order) new
+Wrote history entry DiskFault new = Waits history entry new
+Wrote history entry NoMemory new = Holds new history
+Wrote history entry (KeyReused kept) new = ⊥
+Wrote history entry (ClockRange reading) new = ⊥
+Wrote history entry Full new = ⊥
+Wrote history entry ClockFault new = ⊥
+Wrote history entry (JournalBad at) new = ⊥
+
 -- the entry was to be written and the disk failed: it is loose
 pub record Loses (history : List Entry) (caller : Caller) (command : Command) (reading : ℕ) (new : Held) : Type 0 where
   pub entry : Entry
   pub answers : Answers history caller command reading (Write entry)
-  pub same : new.history ≡ history
-  pub loose : new.loose ≡ Some entry
+  pub waits : Waits history entry new
 
 -- the reply over a settled history and a reading
 abbrev pub Acts : List Entry → Caller → Command → ℕ → Reply → Held → Type 0
@@ -107,16 +121,14 @@ pub record Settled (old : Held) (clock clock' : ClockTold) (caller : Caller) (co
   pub goes : Goes history clock clock' caller command reply new
 
 -- disk_fault comes only where the disk's count rose
-abbrev pub HasDiskCause : Reply → ℕ → ℕ → Type 0
-HasDiskCause DiskFault before now = (before ≤ now) × Rose before now
-HasDiskCause (Placed order) before now = before ≤ now
-HasDiskCause (KeyReused kept) before now = before ≤ now
-HasDiskCause (ClockRange reading) before now = before ≤ now
-HasDiskCause Full before now = before ≤ now
-HasDiskCause ClockFault before now = before ≤ now
-HasDiskCause (JournalBad at) before now = before ≤ now
-HasDiskCause NoMemory before now = before ≤ now
-
 pub record Step (old : State) (caller : Caller) (command : Command) (reply : Reply) (new : State) : Type 0 where
-  pub cause : HasDiskCause reply old.disk_faults new.disk_faults
+  pub later : old.disk_faults ≤ new.disk_faults
+  pub cause : reply ≡ DiskFault → Rose old.disk_faults new.disk_faults
   pub goes : RemountFails old.held old.clock new.clock reply new.held ⊎ Settled old.held old.clock new.clock caller command reply new.held
+
+-- a list of commands of one caller, and a reply to each
+abbrev pub Steps : State → Caller → List Command → List Reply → State → Type 0
+Steps old caller [] [] new = new ≡ old
+Steps old caller [] (reply ∷ replies) new = ⊥
+Steps old caller (command ∷ commands) [] new = ⊥
+Steps old caller (command ∷ commands) (reply ∷ replies) new = (mid : State) × Step old caller command reply mid × Steps mid caller commands replies new
