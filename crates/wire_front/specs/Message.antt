@@ -1,0 +1,105 @@
+-- The one form of message so far: an order of the account `acme`, as the bytes of an HTTP/1.1 request with a JSON body.
+use Rattle.std.specs.Prelude.{◌≡◌, ◌≢◌, ℕ, ◌≤◌, List, [], ◌∷◌, ◌++◌, length, codes, Bool, ◌&&◌, ◌||◌, nat_le, if◌then◌else◌, IsTrue, false}
+use Rattle.std.specs.List.{flat_map, list_all, AllByRecursion}
+use Rattle.core.specs.Fmt.{decimal}
+use Rattle.base64.specs.GeneralPurpose.{encode_of}
+use Rattle.base64.specs.Engines.{standard}
+use Rattle.gate_base.specs.declared.name.Target.{Target}
+use Rattle.gate_base.specs.declared.name.Target.TheVariants.{Dns, Ip}
+use Rattle.gate_entries.specs.declared.command.Command.{Command}
+use Rattle.gate_entries.specs.declared.command.Command.TheVariants.{Order}
+use Rattle.gate_entries.specs.Command.{IsCommand}
+use Rattle.gate_entries.specs.Name.{name_text, is_name}
+use Rattle.wire_front.specs.declared.message.Found.{Found}
+use Rattle.wire_front.specs.declared.message.Found.TheVariants as found
+
+-- a lower-case letter; such a letter or a digit
+abbrev pub is_letter : ℕ → Bool
+is_letter byte = nat_le 97 byte && nat_le byte 122
+
+abbrev pub is_plain_byte : ℕ → Bool
+is_plain_byte byte = is_letter byte || (nat_le 48 byte && nat_le byte 57)
+
+-- the text of a name, with `*.` in front where it is a wildcard; an address has none
+abbrev pub domain_text : Target → List ℕ
+domain_text (Dns name) = (if name.wild then codes "*." else []) ++ name_text name.labels
+domain_text (Ip address) = []
+
+abbrev pub quoted : List ℕ → List ℕ
+quoted text = 34 ∷ text ++ 34 ∷ []
+
+-- names in quotes, with a comma between two
+abbrev pub names_text : List Target → List ℕ
+names_text [] = []
+names_text (target ∷ targets) = quoted (domain_text target) ++ flat_map (λ next. 44 ∷ quoted (domain_text next)) targets
+
+unfoldable pub body_of : Command → List ℕ
+body_of (Order key targets days common request) =
+    codes "{\"common\":false,\"days\":" ++ decimal days ++ codes ",\"key\":\"" ++ key ++ codes "\",\"names\":[" ++ names_text targets
+    ++ codes "],\"request\":\"" ++ encode_of standard request ++ codes "\"}"
+
+unfoldable pub message_of : Command → List ℕ
+message_of command =
+    codes "POST /orders HTTP/1.1\r\nhost: gate\r\nx-gate-key: acme-token\r\ncontent-length: " ++ decimal (length (body_of command))
+    ++ codes "\r\n\r\n" ++ body_of command
+
+-- the last label begins with a letter
+abbrev pub last_begins_with_letter : List (List ℕ) → Bool
+last_begins_with_letter [] = false
+last_begins_with_letter ([] ∷ []) = false
+last_begins_with_letter ((byte ∷ bytes) ∷ []) = is_letter byte
+last_begins_with_letter (label ∷ next ∷ labels) = last_begins_with_letter (next ∷ labels)
+
+-- a domain name, maybe a wildcard, of 1 to 253 bytes: its labels have 1 to 63 lower-case letters or digits
+abbrev pub IsDomain : Target → Type 0
+IsDomain (Dns name) = IsTrue (is_name name.wild name.labels) × IsTrue (list_all (list_all is_plain_byte) name.labels) × IsTrue (last_begins_with_letter name.labels)
+IsDomain (Ip address) = ⊥
+
+-- no two are equal
+abbrev pub AreDistinct : List Target → Type 0
+AreDistinct [] = Unit {0}
+AreDistinct (target ∷ targets) = AllByRecursion (λ other. other ≢ target) targets × AreDistinct targets
+
+pub record IsOrderMessage (key : List ℕ) (targets : List Target) (days : ℕ) (common : Bool) (request : List ℕ) : Type 0 where
+  pub plain : common ≡ false
+  pub days_some : 1 ≤ days
+  pub days_fit : days ≤ 398
+  pub key_some : 1 ≤ length key
+  pub key_fits : length key ≤ 64
+  pub key_plain : IsTrue (list_all is_plain_byte key)
+  pub names_some : 1 ≤ length targets
+  pub names_fit : length targets ≤ 100
+  pub names : AllByRecursion IsDomain targets
+  pub distinct : AreDistinct targets
+  pub request_some : 1 ≤ length request
+  pub request_fits : length request ≤ 16384
+
+-- a command that a message can say, in a body of at most 65,536 bytes
+abbrev pub IsSaid : Command → Type 0
+IsSaid (Order key targets days common request) = IsOrderMessage key targets days common request
+
+pub record IsMessage (command : Command) : Type 0 where
+  pub said : IsSaid command
+  pub fits : length (body_of command) ≤ 65536
+
+-- no message stands at the front
+abbrev pub HasNoMessage : List ℕ → Type 0
+HasNoMessage bytes = (command : Command) (rest : List ℕ) → IsMessage command → bytes ≢ message_of command ++ rest
+
+-- nor will one, whatever follows
+abbrev pub NeverHasMessage : List ℕ → Type 0
+NeverHasMessage bytes = (more : List ℕ) → HasNoMessage (bytes ++ more)
+
+-- a message stands at the front, with so many bytes behind it
+pub record BeginsWith (bytes : List ℕ) (command : Command) (left : ℕ) : Type 0 where
+  pub message : IsMessage command
+  pub spelled : IsCommand command
+  pub rest : List ℕ
+  pub whole : bytes ≡ message_of command ++ rest
+  pub behind : left ≡ length rest
+
+abbrev pub TellsMessage : List ℕ → Found → Type 0
+TellsMessage bytes (found.Message command left) = BeginsWith bytes command left
+TellsMessage bytes found.More = HasNoMessage bytes
+TellsMessage bytes found.Never = (1 ≤ length bytes) × NeverHasMessage bytes
+TellsMessage bytes found.NoMemory = Unit {0}
