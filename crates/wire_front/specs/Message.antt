@@ -1,7 +1,6 @@
 -- The one form of message so far: an order of the account `acme`, as the bytes of an HTTP/1.1 request with a JSON body.
-use Rattle.std.specs.Prelude.{◌≡◌, ◌≢◌, ℕ, ◌≤◌, List, [], ◌∷◌, ◌++◌, length, codes, Bool, ◌&&◌, ◌||◌, nat_le, if◌then◌else◌, IsTrue, false}
+use Rattle.std.specs.Prelude.{◌≡◌, ◌≢◌, ℕ, ◌≤◌, List, [], ◌∷◌, ◌++◌, length, codes, decimal, Bool, ◌&&◌, ◌||◌, nat_le, if◌then◌else◌, IsTrue, false}
 use Rattle.std.specs.List.{flat_map, list_all, AllByRecursion}
-use Rattle.core.specs.Fmt.{decimal}
 use Rattle.base64.specs.GeneralPurpose.{encode_of}
 use Rattle.base64.specs.Engines.{standard}
 use Rattle.gate_base.specs.declared.name.Target.{Target}

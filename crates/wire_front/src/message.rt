@@ -2,7 +2,7 @@
 ghost use Rattle.std.specs.Prelude.{◌≤◌, ◌<◌, length, IsTrue, IfOk, IfSome};
 ghost use Rattle.gate_entries.specs.Spelling.{IsTarget, AreTargets};
 ghost use Rattle.gate_entries.specs.Command.{IsCommand};
-ghost use Rattle.gate_server.specs.Message.{IsFound, IsBehind, IsShorter};
+ghost use Rattle.wire_front.specs.Message.{TellsMessage};
 
 use base64::DecodeAllocError;
 use base64::engine::general_purpose::STANDARD;
@@ -45,7 +45,7 @@ pub enum Found {
 
 /// Finds the message at the front.
 pub fn find_message(alloc: Global, bytes: &[u8]) -> Found
-    ensures { IsFound bytes.now result }
+    ensures { TellsMessage bytes.now result }
 {
     match find_body(bytes) {
         Body::Whole { body, behind } => match read_body(alloc, body) {
@@ -70,7 +70,6 @@ enum Body<'a> {
 }
 
 fn find_body(bytes: &[u8]) -> Body<'_>
-    ensures { IsBehind bytes.now result }
 {
     let rest = match after(bytes, HEAD) {
         Cut::Rest(rest) => rest,
@@ -111,7 +110,6 @@ enum Cut<'a> {
 }
 
 fn after<'a>(bytes: &'a [u8], text: &[u8]) -> Cut<'a>
-    ensures { IsShorter bytes.now result }
 {
     if bytes.len() < text.len() {
         return if text.starts_with(bytes) {

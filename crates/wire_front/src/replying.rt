@@ -1,21 +1,47 @@
 //! The bytes of a reply.
+ghost use Rattle.std.specs.Prelude.{◌≡◌, ◌≤◌, ◌<◌, IfOk, string_bytes};
+ghost use Rattle.wire_front.specs.Reply.{status_of, reason_of, json_of, status_line, header_lines, response_of, text_of};
 
 use gate_entries::Reply;
 use http::StatusCode;
 use std::alloc::{AllocError, Global};
 
 /// The reply as the bytes of an HTTP/1.1 response.
-pub fn reply_text(alloc: Global, reply: &Reply) -> Result<String, AllocError> {
-    let body = reply_body(alloc, reply)?;
-    let status = status_of(reply);
-    let phrase = phrase_of(status);
-    let size = body.len();
-    format!(in alloc;
-        "HTTP/1.1 {status} {phrase}\r\ncontent-type: application/json\r\ncontent-length: {size}\r\n\r\n{body}"
-    )
+#[tactic(auto, unfolding(crate::specs::Reply::text_of))]
+pub fn reply_text(alloc: Global, reply: &Reply) -> Result<String, AllocError>
+    ensures { IfOk result (λ text. string_bytes text ≡ text_of reply.now) }
+{
+    let json = json_of(alloc, reply)?;
+    response_of(alloc, status_of(reply), json.as_str())
 }
 
-fn status_of(reply: &Reply) -> u16 {
+fn response_of(alloc: Global, status: u16, json: &str) -> Result<String, AllocError>
+    requires { (100 ≤ status) × (status < 1000) }
+    ensures { IfOk result (λ text. string_bytes text ≡ response_of status json.now) }
+{
+    let mut text = status_line(alloc, status, reason_of(status))?;
+    text.push_str(header_lines(alloc, json)?.as_str())?;
+    text.push_str(json)?;
+    Ok(text)
+}
+
+fn status_line(alloc: Global, status: u16, reason: &str) -> Result<String, AllocError>
+    ensures { IfOk result (λ text. string_bytes text ≡ status_line status reason.now) }
+{
+    let number = u64::from(status);
+    format!(in alloc; "HTTP/1.1 {number} {reason}\r\n")
+}
+
+fn header_lines(alloc: Global, json: &str) -> Result<String, AllocError>
+    ensures { IfOk result (λ text. string_bytes text ≡ header_lines json.now) }
+{
+    let size = json.len();
+    format!(in alloc; "content-type: application/json\r\ncontent-length: {size}\r\n\r\n")
+}
+
+fn status_of(reply: &Reply) -> u16
+    ensures { result ≡ status_of reply.now }
+{
     match reply {
         Reply::Placed { .. } => 200,
         Reply::KeyReused { .. } => 409,
@@ -28,14 +54,20 @@ fn status_of(reply: &Reply) -> u16 {
     }
 }
 
-fn phrase_of(status: u16) -> &'static str {
+#[tactic(auto, unfolding(crate::specs::Reply::reason_of))]
+fn reason_of(status: u16) -> &'static str
+    requires { (100 ≤ status) × (status < 1000) }
+    ensures { result.now ≡ reason_of status }
+{
     match StatusCode::from_u16(status) {
         Ok(code) => code.canonical_reason().unwrap_or(""),
-        Err(_) => "",
+        Err(_) => unreachable!(),
     }
 }
 
-fn reply_body(alloc: Global, reply: &Reply) -> Result<String, AllocError> {
+fn json_of(alloc: Global, reply: &Reply) -> Result<String, AllocError>
+    ensures { IfOk result (λ json. string_bytes json ≡ json_of reply.now) }
+{
     match reply {
         Reply::Placed { order } => format!(in alloc; "{{\"order\":{order},\"reply\":\"placed\"}}"),
         Reply::KeyReused { kept } => format!(in alloc;

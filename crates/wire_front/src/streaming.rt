@@ -1,13 +1,13 @@
 //! The source's bytes, and one message after another from them.
-ghost use Rattle.std.specs.Prelude.{◌≡◌, ◌≢◌, ◌≤◌};
-ghost use Rattle.plant.specs.Causes.{Rose};
-ghost use Rattle.gate_entries.specs.Command.{IsCommand};
-ghost use Rattle.gate_server.specs.Message.{IsTaken};
+ghost use Rattle.std.specs.Prelude.{◌≡◌, ◌-◌, ◌≤◌, [], length, drop};
+ghost use Rattle.wire_front.specs.Message.{BeginsWith};
+ghost use Rattle.wire_front.specs.Stream.{Passes, Tells, Gives, given};
 
 use crate::message::{Found, find_message};
 use gate_entries::Command;
 use plant::{Source, TakeFault};
 use std::alloc::Global;
+use std::marker::Model;
 
 /// The most bytes that are taken without an end.
 const STREAM_LIMIT: u64 = 1 << 30;
@@ -28,30 +28,46 @@ pub enum Taken {
     NoMemory,
 }
 
-/// The bytes that were taken and not yet used.
+/// The bytes that were taken and not yet used, and how many were taken in all.
 #[derive(Drop)]
 pub struct Stream {
     held: Vec<u8>,
     taken: u64,
 }
 
+impl Model for Stream {
+    ghost use Rattle.std.specs.Prelude.{◌≤◌};
+    ghost use Rattle.wire_front.specs.Stream.{StreamState, most_taken};
+
+    ghost Value = { StreamState };
+
+    ghost view = { λ s. record { held = s.held.items; taken = s.taken } };
+
+    ghost invariant = { λ s. s.taken ≤ most_taken };
+}
+
 impl Stream {
-    pub fn new(alloc: Global) -> Stream {
+    /// Nothing was taken.
+    pub fn new(alloc: Global) -> Stream
+        ensures { result ≡ record { held = []; taken = 0 } }
+    {
         Stream {
             held: Vec::new(alloc),
             taken: 0,
         }
     }
 
-    /// The next message.
+    /// The next message. Whatever is answered, no byte is lost.
     pub fn take_message<S: Source>(&mut self, alloc: Global, source: &mut S) -> Taken
-        ensures message { IsTaken result }
-        ensures fault { result ≡ Taken.Fault → Rose (S.told source.old).faults (S.told source.new).faults }
+        ensures tells { Tells result self.new (S.told source.old) (S.told source.new) }
+        ensures passes { Passes self.old (S.told source.old) self.new (S.told source.new) (given result) }
         ensures later { (S.told source.old).faults ≤ (S.told source.new).faults }
     {
-        for _ in 0..=STREAM_LIMIT {
+        loop {
             match find_message(alloc, &self.held) {
-                Found::Message { command, left } => return self.use_up(alloc, command, left),
+                Found::Message { command, left } => {
+                    return self.use_up(alloc, source, command, left);
+                }
                 Found::Never => return Taken::NotBuilt,
                 Found::NoMemory => return Taken::NoMemory,
                 Found::More => {}
@@ -65,17 +81,21 @@ impl Stream {
                 More::NoMemory => return Taken::NoMemory,
             }
         }
-        Taken::StreamLong
     }
 
     /// Keeps what stands behind a message.
-    fn use_up(&mut self, alloc: Global, command: Command, left: usize) -> Taken
-        requires { IsCommand command }
-        ensures message { IsTaken result }
-        ensures none { result ≢ Taken.Fault }
+    fn use_up<S: Source>(
+        &mut self,
+        alloc: Global,
+        source: &S,
+        command: Command,
+        left: usize,
+    ) -> Taken
+        requires { BeginsWith self.old.held command left }
+        ensures tells { Tells result self.new (S.told source.now) (S.told source.now) }
+        ensures passes { Passes self.old (S.told source.now) self.new (S.told source.now) (given result) }
     {
-        let used = self.held.len().saturating_sub(left);
-        match Vec::from_slice(alloc, &self.held[used..]) {
+        match Vec::from_slice(alloc, last_of(&self.held, left)) {
             Ok(rest) => {
                 self.held = rest;
                 Taken::Message(command)
@@ -86,7 +106,8 @@ impl Stream {
 
     /// Takes some bytes more.
     fn take_more<S: Source>(&mut self, source: &mut S) -> More
-        ensures fault { result ≡ More.Fault → Rose (S.told source.old).faults (S.told source.new).faults }
+        ensures gives { Gives result self.old (S.told source.old) self.new (S.told source.new) }
+        ensures passes { Passes self.old (S.told source.old) self.new (S.told source.new) [] }
         ensures later { (S.told source.old).faults ≤ (S.told source.new).faults }
     {
         if self.taken >= STREAM_LIMIT {
@@ -104,12 +125,20 @@ impl Stream {
                 self.taken += count as u64;
                 match self.held.extend_from_slice(&room[..count]) {
                     Ok(()) => More::Bytes,
-                    Err(_) => More::NoMemory,
+                    Err(_) => unreachable!(),
                 }
             }
             Err(TakeFault) => More::Fault,
         }
     }
+}
+
+/// The last bytes, so many.
+fn last_of(bytes: &[u8], count: usize) -> &[u8]
+    requires { count ≤ length bytes.now }
+    ensures { result.now ≡ drop (length bytes.now - count) bytes.now }
+{
+    &bytes[bytes.len() - count..]
 }
 
 /// What a source gave.
