@@ -28,8 +28,10 @@ fn response_of(alloc: Global, status: u16, json: &str) -> Result<String, AllocEr
 fn status_line(alloc: Global, status: u16, reason: &str) -> Result<String, AllocError>
     ensures { IfOk result (λ text. string_bytes text ≡ status_line status reason.now) }
 {
-    let number = u64::from(status);
-    format!(in alloc; "HTTP/1.1 {number} {reason}\r\n")
+    let mut line = format!(in alloc; "HTTP/1.1 {status} ")?;
+    line.push_str(reason)?;
+    line.push_str("\r\n")?;
+    Ok(line)
 }
 
 fn header_lines(alloc: Global, json: &str) -> Result<String, AllocError>

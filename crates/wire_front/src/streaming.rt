@@ -63,6 +63,7 @@ impl Stream {
         ensures passes { Passes self.old (S.told source.old) self.new (S.told source.new) (given result) }
         ensures later { (S.told source.old).faults ≤ (S.told source.new).faults }
     {
+        let _ = &self.taken;
         loop {
             match find_message(alloc, &self.held) {
                 Found::Message { command, left } => {

@@ -1,0 +1,107 @@
+-- A session: messages that are taken, asked and answered, one after another, and how it ends.
+use Rattle.std.specs.Prelude.{◌≡◌, ℕ, ◌+◌, ◌≤◌, ◌⊎◌, List, [], ◌∷◌, ◌++◌, length, take, codes, Bool, true, false, Result, Ok, Err, IfSome, None}
+use Rattle.std.specs.List.{flat_map, AllByRecursion}
+use Rattle.std.specs.Option.{ForSome}
+use Rattle.std.specs.Io.KnownBytes.{Appends, Consumes, IsAtEnd}
+use Rattle.gate_base.specs.declared.profile.Role.TheVariants.{Account}
+use Rattle.plant.specs.Causes.{Rose}
+use Rattle.plant.specs.Plant.{PlantTold}
+use Rattle.plant.specs.Clock.{ClockTold}
+use Rattle.plant.specs.Stream.{SourceTold, SinkTold, AppendsFront}
+use Rattle.journal_core.specs.Journal.{IsJournal}
+use Rattle.gate_entries.specs.declared.caller.Caller.{Caller}
+use Rattle.gate_entries.specs.declared.command.Command.{Command}
+use Rattle.gate_entries.specs.declared.reply.Reply.{Reply}
+use Rattle.gate_machine.specs.History.{Legal}
+use Rattle.gate_machine.specs.Step.{Held, State, Step, Steps}
+use Rattle.gate_engine.specs.Engine.{payloads_of}
+use Rattle.wire_front.specs.Message.{message_of, IsMessage, HasNoMessage}
+use Rattle.wire_front.specs.Reply.{text_of}
+use Rattle.wire_front.specs.Stream.{StreamState, Passes, most_taken}
+use Rattle.gate_server.specs.declared.status.Status.{Status}
+use Rattle.gate_server.specs.declared.status.Status.TheVariants as statuses
+
+-- the one account so far
+abbrev pub acme : Caller
+acme = record { id = codes "acme"; role = Account }
+
+abbrev pub messages_of : List Command → List ℕ
+messages_of commands = flat_map message_of commands
+
+abbrev pub texts_of : List Reply → List ℕ
+texts_of replies = flat_map text_of replies
+
+-- the gate, the bytes that are held, the source and the sink
+pub record Talk : Type 0 where
+  pub state : State
+  pub stream : StreamState
+  pub source : SourceTold
+  pub sink : SinkTold
+
+-- one message was taken, and its command was asked
+pub record Exchanges (old new : Talk) (command : Command) (reply : Reply) : Type 0 where
+  pub message : IsMessage command
+  pub step : Step old.state acme command reply new.state
+  pub passes : Passes old.stream old.source new.stream new.source (message_of command)
+
+-- its reply was put
+pub record Answers (old new : Talk) : Type 0 where
+  pub command : Command
+  pub reply : Reply
+  pub exchanges : Exchanges old new command reply
+  pub puts : Appends old.sink.held new.sink.held (text_of reply)
+
+-- its reply, or an end of it, is lost
+pub record BreaksOff (old new : Talk) : Type 0 where
+  pub command : Command
+  pub reply : Reply
+  pub exchanges : Exchanges old new command reply
+  pub puts : AppendsFront old.sink.held new.sink.held (text_of reply)
+
+-- no message was taken, and nothing was asked
+pub record Rests (old new : Talk) : Type 0 where
+  pub state : new.state ≡ old.state
+  pub passes : Passes old.stream old.source new.stream new.source []
+  pub sink : new.sink ≡ old.sink
+
+-- bytes that aren't the end and begin with no message
+abbrev pub StandsNext : Talk → Type 0
+StandsNext talk = IfSome talk.source.left (λ more. HasNoMessage (talk.stream.held ++ more) × (1 ≤ length (talk.stream.held ++ more)))
+
+-- how a session ends
+abbrev pub Ends : Status → Talk → Talk → Type 0
+Ends statuses.Ok old new = Rests old new × (new.stream.held ≡ []) × IsAtEnd new.source.left
+Ends statuses.NotBuilt old new = Rests old new × StandsNext new
+Ends (statuses.ReadFault settings) old new = (settings ≡ false) × Rests old new × HasNoMessage new.stream.held × Rose old.source.faults new.source.faults
+Ends statuses.StreamLong old new = Rests old new × HasNoMessage new.stream.held × (new.stream.taken ≡ most_taken)
+Ends statuses.WriteFault old new = BreaksOff old new × Rose old.sink.faults new.sink.faults
+Ends statuses.NoMemory old new = Rests old new ⊎ BreaksOff old new
+Ends statuses.Usage old new = ⊥
+Ends statuses.NotBegun old new = ⊥
+Ends (statuses.NotEmpty count) old new = ⊥
+Ends (statuses.JournalBad at) old new = ⊥
+Ends statuses.DiskFault old new = ⊥
+Ends statuses.ClockFault old new = ⊥
+Ends (statuses.ClockRange reading) old new = ⊥
+
+-- one turn: a message is answered, or the session ends
+abbrev pub Turns : Result (Unit {0}) Status → Talk → Talk → Type 0
+Turns (Ok done) old new = Answers old new
+Turns (Err status) old new = Ends status old new
+
+-- messages that were asked and answered, in order
+pub record Talked (old new : Talk) : Type 0 where
+  pub commands : List Command
+  pub each : AllByRecursion IsMessage commands
+  pub replies : List Reply
+  pub steps : Steps old.state acme commands replies new.state
+  pub passes : Passes old.stream old.source new.stream new.source (messages_of commands)
+  pub puts : Appends old.sink.held new.sink.held (texts_of replies)
+  pub read_later : old.source.faults ≤ new.source.faults
+  pub put_later : old.sink.faults ≤ new.sink.faults
+
+-- the messages, and how they ended
+pub record Ended (status : Status) (old new : Talk) : Type 0 where
+  pub last : Talk
+  pub talked : Talked old last
+  pub ends : Ends status last new
