@@ -1,2 +1,2 @@
-pub mod Message
+pub mod Session
 pub mod Ending

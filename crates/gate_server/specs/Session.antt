@@ -14,7 +14,7 @@ use Rattle.gate_entries.specs.declared.command.Command.{Command}
 use Rattle.gate_entries.specs.declared.reply.Reply.{Reply}
 use Rattle.gate_machine.specs.History.{Legal}
 use Rattle.gate_machine.specs.Step.{Held, State, Step, Steps}
-use Rattle.gate_engine.specs.Engine.{payloads_of}
+use Rattle.gate_engine.specs.Engine.{payloads_of, state_of}
 use Rattle.wire_front.specs.Message.{message_of, IsMessage, HasNoMessage}
 use Rattle.wire_front.specs.Reply.{text_of}
 use Rattle.wire_front.specs.Stream.{StreamState, Passes, most_taken}
@@ -38,11 +38,20 @@ pub record Talk : Type 0 where
   pub source : SourceTold
   pub sink : SinkTold
 
+abbrev pub talk_of : Held → PlantTold → ClockTold → StreamState → SourceTold → SinkTold → Talk
+talk_of held plant clock stream source sink =
+    record { state = state_of held plant clock; stream = stream; source = source; sink = sink }
+
+-- nothing was taken
+abbrev pub begun : StreamState
+begun = record { held = []; taken = 0 }
+
 -- one message was taken, and its command was asked
 pub record Exchanges (old new : Talk) (command : Command) (reply : Reply) : Type 0 where
   pub message : IsMessage command
   pub step : Step old.state acme command reply new.state
   pub passes : Passes old.stream old.source new.stream new.source (message_of command)
+  pub some : 1 ≤ length (message_of command)
 
 -- its reply was put
 pub record Answers (old new : Talk) : Type 0 where
@@ -100,8 +109,26 @@ pub record Talked (old new : Talk) : Type 0 where
   pub read_later : old.source.faults ≤ new.source.faults
   pub put_later : old.sink.faults ≤ new.sink.faults
 
--- the messages, and how they ended
-pub record Ended (status : Status) (old new : Talk) : Type 0 where
+-- the messages, and how they ended; the bytes that are held at the end are no longer told
+pub record Ended (status : Status) (old : Talk) (held : Held) (plant : PlantTold) (clock : ClockTold) (source : SourceTold) (sink : SinkTold) : Type 0 where
   pub last : Talk
   pub talked : Talked old last
-  pub ends : Ends status last new
+  pub stream : StreamState
+  pub ends : Ends status last (talk_of held plant clock stream source sink)
+
+-- how a reply is put: whole, or a front of it
+abbrev pub PutsReply : Result (Unit {0}) Status → SinkTold → SinkTold → List ℕ → Type 0
+PutsReply (Ok done) old new text = Appends old.held new.held text
+PutsReply (Err statuses.WriteFault) old new text = AppendsFront old.held new.held text × Rose old.faults new.faults
+PutsReply (Err statuses.NoMemory) old new text = AppendsFront old.held new.held text
+PutsReply (Err statuses.Ok) old new text = ⊥
+PutsReply (Err statuses.NotBuilt) old new text = ⊥
+PutsReply (Err (statuses.ReadFault settings)) old new text = ⊥
+PutsReply (Err statuses.StreamLong) old new text = ⊥
+PutsReply (Err statuses.Usage) old new text = ⊥
+PutsReply (Err statuses.NotBegun) old new text = ⊥
+PutsReply (Err (statuses.NotEmpty count)) old new text = ⊥
+PutsReply (Err (statuses.JournalBad at)) old new text = ⊥
+PutsReply (Err statuses.DiskFault) old new text = ⊥
+PutsReply (Err statuses.ClockFault) old new text = ⊥
+PutsReply (Err (statuses.ClockRange reading)) old new text = ⊥

@@ -1,13 +1,10 @@
 //! The program `gate JOURNAL CONF SIGNER WORDS`: begins a journal, or answers a session's messages.
 #![tactic(auto)]
 
-mod message;
 mod opening;
-mod replying;
 mod running;
 mod session;
 mod status;
-mod streaming;
 
 use std::process::ExitCode;
 

@@ -1,25 +1,24 @@
 //! A session: one message after another is asked and answered.
-ghost use Rattle.std.specs.Prelude.{◌≡◌, ◌≤◌, false, IfOk};
-ghost use Rattle.plant.specs.Causes.{Rose};
+ghost use Rattle.std.specs.Prelude.{◌≡◌, ◌≤◌, IfOk};
 ghost use Rattle.plant.specs.Plant.{LeavesSigner};
-ghost use Rattle.gate_entries.specs.Command.{IsCaller};
 ghost use Rattle.gate_engine.specs.Engine.{StandsForPlant};
-ghost use Rattle.gate_server.specs.Ending.{EndsSession};
+ghost use Rattle.wire_front.specs.Stream.{most_taken};
+ghost use Rattle.wire_front.specs.Reply.{text_of};
+ghost use Rattle.gate_server.specs.Session.{acme, talk_of, begun, Turns, PutsReply, Ended};
 
-use crate::replying::reply_text;
 use crate::status::Status;
-use crate::streaming::{Stream, Taken};
 use gate_base::{Bytes, NoMemory, Role};
 use gate_engine::Engine;
 use gate_entries::{Caller, Reply};
 use plant::{Clock, Entropy, Plant, PutFault, Sink, Source};
 use std::alloc::Global;
+use wire_front::{Stream, Taken, one_passing, reply_text};
 
 /// The one account so far.
 const ACCOUNT: &[u8] = b"acme";
 
 fn account(alloc: Global) -> Result<Caller, NoMemory>
-    ensures { IfOk result IsCaller }
+    ensures { IfOk result (λ caller. caller ≡ acme) }
 {
     let id = Bytes::from_slice(alloc, ACCOUNT)?;
     Ok(Caller {
@@ -39,53 +38,81 @@ pub fn answer_messages<P: Plant, C: Clock, E: Entropy, S: Source, K: Sink>(
     sink: &mut K,
 ) -> Status
     requires { StandsForPlant engine.old (P.told plant.old) }
-    ensures ends { EndsSession result }
-    ensures read { result ≡ Status.ReadFault false → Rose (S.told source.old).faults (S.told source.new).faults }
-    ensures write { result ≡ Status.WriteFault → Rose (K.told sink.old).faults (K.told sink.new).faults }
+    ensures ended { Ended result
+        (talk_of engine.old (P.told plant.old) (C.told clock.old) begun (S.told source.old) (K.told sink.old))
+        engine.new (P.told plant.new) (C.told clock.new) (S.told source.new) (K.told sink.new) }
+    ensures stands { StandsForPlant engine.new (P.told plant.new) }
     ensures signer { LeavesSigner (P.told plant.old) (P.told plant.new) }
-    ensures later { (P.told plant.old).disk_faults ≤ (P.told plant.new).disk_faults }
     ensures entropy { E.told entropy.new ≡ E.told entropy.old }
 {
+    one_passing();
     let Ok(caller) = account(alloc) else {
         return Status::NoMemory;
     };
     let mut stream = Stream::new(alloc);
-    for _ in 0..u64::MAX {
-        let command = match stream.take_message(alloc, source) {
-            Taken::Message(command) => command,
-            Taken::End => return Status::Ok,
-            Taken::NotBuilt => return Status::NotBuilt,
-            Taken::Fault => return Status::ReadFault { settings: false },
-            Taken::StreamLong => return Status::StreamLong,
-            Taken::NoMemory => return Status::NoMemory,
-        };
-        let reply = engine.ask(plant, clock, entropy, &caller, &command);
-        match put_reply(alloc, sink, &reply) {
-            Put::Whole => {}
-            Put::Fault => return Status::WriteFault,
-            Put::NoMemory => return Status::NoMemory,
+    loop {
+        let turned = turn(
+            alloc,
+            engine,
+            plant,
+            clock,
+            entropy,
+            &caller,
+            &mut stream,
+            source,
+            sink,
+        );
+        if let Err(status) = turned {
+            return status;
         }
     }
-    Status::StreamLong
 }
 
-/// How a reply was put.
-#[derive(Clone, Copy)]
-enum Put {
-    Whole,
-    Fault,
-    NoMemory,
+/// Answers the next message, or tells how the session ends.
+fn turn<P: Plant, C: Clock, E: Entropy, S: Source, K: Sink>(
+    alloc: Global,
+    engine: &mut Engine,
+    plant: &mut P,
+    clock: &mut C,
+    entropy: &mut E,
+    caller: &Caller,
+    stream: &mut Stream,
+    source: &mut S,
+    sink: &mut K,
+) -> Result<(), Status>
+    requires stands { StandsForPlant engine.old (P.told plant.old) }
+    requires caller { caller.now ≡ acme }
+    ensures turns { Turns result
+        (talk_of engine.old (P.told plant.old) (C.told clock.old) stream.old (S.told source.old) (K.told sink.old))
+        (talk_of engine.new (P.told plant.new) (C.told clock.new) stream.new (S.told source.new) (K.told sink.new)) }
+    ensures fits { stream.new.taken ≤ most_taken }
+    ensures read_later { (S.told source.old).faults ≤ (S.told source.new).faults }
+    ensures put_later { (K.told sink.old).faults ≤ (K.told sink.new).faults }
+    ensures stands { StandsForPlant engine.new (P.told plant.new) }
+    ensures signer { LeavesSigner (P.told plant.old) (P.told plant.new) }
+    ensures entropy { E.told entropy.new ≡ E.told entropy.old }
+{
+    let command = match stream.take_message(alloc, source) {
+        Taken::Message(command) => command,
+        Taken::End => return Err(Status::Ok),
+        Taken::NotBuilt => return Err(Status::NotBuilt),
+        Taken::Fault => return Err(Status::ReadFault { settings: false }),
+        Taken::StreamLong => return Err(Status::StreamLong),
+        Taken::NoMemory => return Err(Status::NoMemory),
+    };
+    let reply = engine.ask(plant, clock, entropy, caller, &command);
+    put_reply(alloc, sink, &reply)
 }
 
-fn put_reply<K: Sink>(alloc: Global, sink: &mut K, reply: &Reply) -> Put
-    ensures fault { result ≡ Put.Fault → Rose (K.told sink.old).faults (K.told sink.new).faults }
+fn put_reply<K: Sink>(alloc: Global, sink: &mut K, reply: &Reply) -> Result<(), Status>
+    ensures puts { PutsReply result (K.told sink.old) (K.told sink.new) (text_of reply.now) }
     ensures later { (K.told sink.old).faults ≤ (K.told sink.new).faults }
 {
     let Ok(text) = reply_text(alloc, reply) else {
-        return Put::NoMemory;
+        return Err(Status::NoMemory);
     };
     match sink.put(text.as_bytes()) {
-        Ok(()) => Put::Whole,
-        Err(PutFault) => Put::Fault,
+        Ok(()) => Ok(()),
+        Err(PutFault) => Err(Status::WriteFault),
     }
 }

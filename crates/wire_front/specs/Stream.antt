@@ -35,7 +35,7 @@ given takes.NoMemory = []
 
 -- what comes next: a message; the end; bytes that aren't the end and begin with no message; or why it isn't known
 abbrev pub Tells : Taken → StreamState → SourceTold → SourceTold → Type 0
-Tells (takes.Message command) stream source source' = IsMessage command × IsCommand command
+Tells (takes.Message command) stream source source' = IsMessage command × IsCommand command × (1 ≤ length (message_of command))
 Tells takes.End stream source source' = (stream.held ≡ []) × IsAtEnd source'.left
 Tells takes.NotBuilt stream source source' = IfSome source'.left (λ more. HasNoMessage (stream.held ++ more) × (1 ≤ length (stream.held ++ more)))
 Tells takes.Fault stream source source' = HasNoMessage stream.held × Rose source.faults source'.faults

@@ -1,0 +1,5 @@
+use Rattle.wire_front.proofs.Streams.{passes_none, passes_more}
+use Rattle.wire_front.proofs.law.one_passing.Goals as goal
+
+pub returns : goal.returns
+returns c = record { none = passes_none; more = passes_more }
