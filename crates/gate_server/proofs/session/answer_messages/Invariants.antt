@@ -1,16 +1,20 @@
-use Rattle.std.proofs.Common.{◌≡◌, ◌≤◌}
+use Rattle.std.proofs.Common.{◌≡◌, ◌+◌, ◌-◌, ◌≤◌, length}
 use Rattle.plant.specs.Plant.{LeavesSigner}
 use Rattle.gate_engine.specs.Engine.{StandsForPlant}
-use Rattle.gate_entries.specs.Command.{IsCaller}
+use Rattle.wire_front.specs.Stream.{most_taken}
+use Rattle.gate_server.specs.Session.{acme, talk_of, begun, Talked}
 use Rattle.gate_server.proofs.session.answer_messages.Given as goal
 
-abbrev pub invariant-loop : goal.invariant-loop
-invariant-loop g l = record {
+abbrev pub invariant-loop-status : goal.invariant-loop-status
+invariant-loop-status g l = record {
+  caller : l.caller ≡ acme;
+  talked : Talked (talk_of l.fn.engine (g.P.Plant.told l.fn.plant) (g.C.Clock.told l.fn.clock) begun (g.S.Source.told l.fn.source) (g.K.Sink.told l.fn.sink))
+      (talk_of l.engine (g.P.Plant.told l.plant) (g.C.Clock.told l.clock) l.stream (g.S.Source.told l.source) (g.K.Sink.told l.sink));
+  fits : l.stream.taken ≤ most_taken;
   stands : StandsForPlant l.engine (g.P.Plant.told l.plant);
-  caller : IsCaller l.caller;
-  signer : LeavesSigner (g.P.Plant.told l.initial.plant) (g.P.Plant.told l.plant);
-  disk : (g.P.Plant.told l.initial.plant).disk_faults ≤ (g.P.Plant.told l.plant).disk_faults;
-  entropy : g.E.Entropy.told l.entropy ≡ g.E.Entropy.told l.initial.entropy;
-  source : (g.S.Source.told l.initial.source).faults ≤ (g.S.Source.told l.source).faults;
-  sink : (g.K.Sink.told l.initial.sink).faults ≤ (g.K.Sink.told l.sink).faults;
+  signer : LeavesSigner (g.P.Plant.told l.fn.plant) (g.P.Plant.told l.plant);
+  entropy : g.E.Entropy.told l.entropy ≡ g.E.Entropy.told l.fn.entropy;
 }
+
+abbrev pub decreases-loop-status : goal.decreases-loop-status
+decreases-loop-status g l = (most_taken - l.stream.taken) + length l.stream.held

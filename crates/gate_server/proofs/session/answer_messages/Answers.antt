@@ -1,0 +1,47 @@
+use Rattle.std.proofs.Common.{◌≡◌, refl, sym, ap, subst, ◌∙◌, inl, arith}
+use Rattle.wire_front.specs.Stream.{StreamState}
+use Rattle.gate_server.specs.Session.{talk_of, begun, Talked}
+use Rattle.gate_server.proofs.Talks.{talked_none, talked_more}
+use Rattle.gate_server.proofs.session.answer_messages.Goals as goal
+
+pub returns-in_default-clause-ended : goal.returns-in_default-clause-ended
+returns-in_default-clause-ended g c =
+    let talk = talk_of c.args.engine.now (g.P.Plant.told c.args.plant.now) (g.C.Clock.told c.args.clock.now) begun (g.S.Source.told c.args.source.now)
+        (g.K.Sink.told c.args.sink.now) in
+    record {
+      last = talk;
+      talked = talked_none c.one_passing.ensures.none c.one_passing.ensures.more talk;
+      stream = begun;
+      ends = inl (record { state = refl; passes = c.one_passing.ensures.none begun (g.S.Source.told c.args.source.now); sink = refl });
+    }
+
+pub loop-status-init : goal.loop-status-init
+loop-status-init g c =
+    let talk : (stream : StreamState) → _ = λ (stream : StreamState). talk_of c.args.engine.now (g.P.Plant.told c.args.plant.now) (g.C.Clock.told c.args.clock.now)
+        stream (g.S.Source.told c.args.source.now) (g.K.Sink.told c.args.sink.now) in
+    record {
+      caller = c.in-Ok.ensures;
+      talked = subst (λ (stream : StreamState). Talked (talk begun) (talk stream)) (sym c.new-stream.ensures)
+          (talked_none c.one_passing.ensures.none c.one_passing.ensures.more (talk begun));
+      fits = omega (arith, ap (λ (s : StreamState). s.taken) c.new-stream.ensures);
+      stands = c.requires;
+      signer = record { sent = refl; answers = refl; signer_faults = refl };
+      entropy = refl;
+    }
+
+pub loop-status-preserved : goal.loop-status-preserved
+loop-status-preserved g c =
+    let before = c.loop-status.invariant in
+    let now = c.turn-turned.ensures in
+    record {
+      caller = before.caller;
+      talked = talked_more c.one_passing.ensures.none c.one_passing.ensures.more _ _ _ before.talked c.in_default-turned.ensures.turns now.read_later now.put_later;
+      fits = now.fits;
+      stands = now.stands;
+      signer = record {
+        sent = now.signer.sent ∙ before.signer.sent;
+        answers = now.signer.answers ∙ before.signer.answers;
+        signer_faults = now.signer.signer_faults ∙ before.signer.signer_faults;
+      };
+      entropy = now.entropy ∙ before.entropy;
+    }
