@@ -53,6 +53,9 @@ goes_settled history clock clock' caller command reply new other goes = elim goe
   | inr read ↦ acts_settled history caller command read.reading reply new other read.acts
 ]
 
+some_none : {A : Type 0} {x : A} → Some x ≡ None → ⊥
+some_none is = cc is
+
 -- with nothing loose, and no fault of the disk, nothing is loose after a step
 pub step_settled : (old new : State) (caller : Caller) (command : Command) (reply : Reply) → Step old caller command reply new → old.held.loose ≡ None
     → (Rose old.disk_faults new.disk_faults → ⊥) → new.held.loose ≡ None
@@ -61,13 +64,10 @@ step_settled old new caller command reply step none same = elim step.goes [
   | inr settled ↦ goes_settled settled.history old.clock new.clock caller command reply new.held (λ is. same (step.cause is)) settled.goes
 ]
 
-some_none : {A : Type 0} {x : A} → Some x ≡ None → ⊥
-some_none is = cc is
-
-rose_before : (a b c : ℕ) → b ≤ c → Rose a b → Rose a c
+pub rose_before : (a b c : ℕ) → b ≤ c → Rose a b → Rose a c
 rose_before a b c le rose = omega (arith, le, rose)
 
-rose_behind : (a b c : ℕ) → a ≤ b → Rose b c → Rose a c
+pub rose_behind : (a b c : ℕ) → a ≤ b → Rose b c → Rose a c
 rose_behind a b c le rose = omega (arith, le, rose)
 
 pub steps_settled : (old new : State) (caller : Caller) (commands : List Command) (replies : List Reply) → Steps old caller commands replies new

@@ -1,2 +1,2 @@
 pub mod Session
-pub mod Ending
+pub mod Run

@@ -1,9 +1,11 @@
 //! The top call: all that the program does, over whatever outside it is given.
-ghost use Rattle.std.specs.Prelude.{◌≡◌, ◌≤◌, true, false};
+ghost use Rattle.std.specs.Prelude.{◌≡◌, ◌≤◌, ◌⊎◌, length, map, string_bytes, IfSome};
 ghost use Rattle.std.specs.Io.KnownBytes.{IsAtEnd};
 ghost use Rattle.plant.specs.Causes.{Rose};
 ghost use Rattle.plant.specs.Plant.{LeavesSigner};
-ghost use Rattle.gate_server.specs.Ending.{EndsBegin, EndsHeld};
+ghost use Rattle.gate_server.specs.declared.running.Word.{Word as WordValue};
+ghost use Rattle.gate_machine.specs.Answer.{IsInRange};
+ghost use Rattle.gate_server.specs.Run.{IsWord, IsStartStatus, RefusesSettings, outside_of, HoldsSession, RunsSession, BeginsJournal, RunsBegin, Begins, Runs};
 
 use crate::session::answer_messages;
 use crate::status::Status;
@@ -18,6 +20,14 @@ const FIRST_MOMENT: u64 = 1_757_894_400;
 
 const LAST_MOMENT: u64 = 4_102_444_799;
 
+/// What the words ask for.
+#[derive(Clone, Copy)]
+enum Word {
+    Begin,
+    Session,
+    Other,
+}
+
 /// Does what the words say.
 pub fn run<F: Source, P: Plant, C: Clock, E: Entropy, S: Source, K: Sink>(
     alloc: Global,
@@ -29,44 +39,31 @@ pub fn run<F: Source, P: Plant, C: Clock, E: Entropy, S: Source, K: Sink>(
     source: &mut S,
     sink: &mut K,
 ) -> Status
-    // A fault comes only where its object's count rose.
-    ensures disk { result ≡ Status.DiskFault → Rose (P.told plant.old).disk_faults (P.told plant.new).disk_faults }
-    ensures settings { result ≡ Status.ReadFault true → Rose (F.told conf.old).faults (F.told conf.new).faults }
-    ensures read { result ≡ Status.ReadFault false → Rose (S.told source.old).faults (S.told source.new).faults }
-    ensures write { result ≡ Status.WriteFault → Rose (K.told sink.old).faults (K.told sink.new).faults }
-    ensures clock { result ≡ Status.ClockFault → Rose (C.told clock.old).faults (C.told clock.new).faults }
+    // What is left of the outside, and the status, are those of the words' meaning.
+    ensures runs { (word : WordValue) → IsWord (map string_bytes words.now) word → Runs word (F.told conf.old) (F.told conf.new)
+        (outside_of (P.told plant.old) (C.told clock.old) (S.told source.old) (K.told sink.old))
+        (outside_of (P.told plant.new) (C.told clock.new) (S.told source.new) (K.told sink.new)) result }
     // The signer is sent nothing.
     ensures signer { LeavesSigner (P.told plant.old) (P.told plant.new) }
-    ensures later { (P.told plant.old).disk_faults ≤ (P.told plant.new).disk_faults }
+    ensures entropy { E.told entropy.new ≡ E.told entropy.old }
 {
-    let [word] = words else {
-        return Status::Usage;
-    };
-    match word.as_str() {
-        "begin" => match read_settings(conf) {
-            Settings::Empty => begin_journal(alloc, plant, clock),
-            Settings::NotEmpty => Status::NotBuilt,
-            Settings::Fault => Status::ReadFault { settings: true },
-        },
-        "session" => match read_settings(conf) {
-            Settings::Empty => hold_session(alloc, plant, clock, entropy, source, sink),
-            Settings::NotEmpty => Status::NotBuilt,
-            Settings::Fault => Status::ReadFault { settings: true },
-        },
-        _ => Status::Usage,
+    match read_words(words) {
+        Word::Begin => run_begin(alloc, conf, plant, clock),
+        Word::Session => run_session(alloc, conf, plant, clock, entropy, source, sink),
+        Word::Other => Status::Usage,
     }
 }
 
-/// The settings are empty so far.
-fn read_settings<F: Source>(conf: &mut F) -> Settings
-    ensures fault { result ≡ Settings.Fault → Rose (F.told conf.old).faults (F.told conf.new).faults }
-    ensures none { result ≡ Settings.Empty → IsAtEnd (F.told conf.new).left }
+fn read_words(words: &[String]) -> Word
+    ensures { IsWord (map string_bytes words.now) result }
 {
-    let mut piece = [0; 1];
-    match conf.take(&mut piece) {
-        Ok(0) => Settings::Empty,
-        Ok(_) => Settings::NotEmpty,
-        Err(TakeFault) => Settings::Fault,
+    let [word] = words else {
+        return Word::Other;
+    };
+    match word.as_str() {
+        "begin" => Word::Begin,
+        "session" => Word::Session,
+        _ => Word::Other,
     }
 }
 
@@ -78,12 +75,40 @@ enum Settings {
     Fault,
 }
 
-fn begin_journal<P: Plant, C: Clock>(alloc: Global, plant: &mut P, clock: &mut C) -> Status
-    ensures ends { EndsBegin result }
-    ensures disk { result ≡ Status.DiskFault → Rose (P.told plant.old).disk_faults (P.told plant.new).disk_faults }
-    ensures clock { result ≡ Status.ClockFault → Rose (C.told clock.old).faults (C.told clock.new).faults }
+/// The settings are empty so far.
+fn read_settings<F: Source>(conf: &mut F) -> Settings
+    ensures fault { result ≡ Settings.Fault → Rose (F.told conf.old).faults (F.told conf.new).faults }
+    ensures none { result ≡ Settings.Empty → IsAtEnd (F.told conf.old).left }
+    ensures some { result ≡ Settings.NotEmpty → IfSome (F.told conf.old).left (λ left. 1 ≤ length left) }
+{
+    let mut piece = [0; 1];
+    match conf.take(&mut piece) {
+        Ok(0) => Settings::Empty,
+        Ok(_) => Settings::NotEmpty,
+        Err(TakeFault) => Settings::Fault,
+    }
+}
+
+fn run_begin<F: Source, P: Plant, C: Clock>(
+    alloc: Global,
+    conf: &mut F,
+    plant: &mut P,
+    clock: &mut C,
+) -> Status
+    ensures does { (RefusesSettings (F.told conf.old) (F.told conf.new) result × (P.told plant.new ≡ P.told plant.old) × (C.told clock.new ≡ C.told clock.old))
+        ⊎ (IsAtEnd (F.told conf.old).left × BeginsJournal (P.told plant.old) (P.told plant.new) (C.told clock.old) (C.told clock.new) result) }
     ensures signer { LeavesSigner (P.told plant.old) (P.told plant.new) }
-    ensures later { (P.told plant.old).disk_faults ≤ (P.told plant.new).disk_faults }
+{
+    match read_settings(conf) {
+        Settings::Empty => begin_journal(alloc, plant, clock),
+        Settings::NotEmpty => Status::NotBuilt,
+        Settings::Fault => Status::ReadFault { settings: true },
+    }
+}
+
+fn begin_journal<P: Plant, C: Clock>(alloc: Global, plant: &mut P, clock: &mut C) -> Status
+    ensures begins { BeginsJournal (P.told plant.old) (P.told plant.new) (C.told clock.old) (C.told clock.new) result }
+    ensures signer { LeavesSigner (P.told plant.old) (P.told plant.new) }
 {
     let reading = match clock.now() {
         Ok(reading) => reading,
@@ -92,6 +117,14 @@ fn begin_journal<P: Plant, C: Clock>(alloc: Global, plant: &mut P, clock: &mut C
     if reading < FIRST_MOMENT || LAST_MOMENT < reading {
         return Status::ClockRange { reading };
     }
+    begin_at(alloc, plant, reading)
+}
+
+fn begin_at<P: Plant>(alloc: Global, plant: &mut P, reading: u64) -> Status
+    requires { IsInRange reading }
+    ensures begins { Begins reading (P.told plant.old) (P.told plant.new) result }
+    ensures signer { LeavesSigner (P.told plant.old) (P.told plant.new) }
+{
     match begin(alloc, plant, Moment(reading)) {
         Ok(()) => Status::Ok,
         Err(BeginFault::Disk) => Status::DiskFault,
@@ -100,6 +133,29 @@ fn begin_journal<P: Plant, C: Clock>(alloc: Global, plant: &mut P, clock: &mut C
     }
 }
 
+fn run_session<F: Source, P: Plant, C: Clock, E: Entropy, S: Source, K: Sink>(
+    alloc: Global,
+    conf: &mut F,
+    plant: &mut P,
+    clock: &mut C,
+    entropy: &mut E,
+    source: &mut S,
+    sink: &mut K,
+) -> Status
+    ensures runs { RunsSession (F.told conf.old) (F.told conf.new)
+        (outside_of (P.told plant.old) (C.told clock.old) (S.told source.old) (K.told sink.old))
+        (outside_of (P.told plant.new) (C.told clock.new) (S.told source.new) (K.told sink.new)) result }
+    ensures signer { LeavesSigner (P.told plant.old) (P.told plant.new) }
+    ensures entropy { E.told entropy.new ≡ E.told entropy.old }
+{
+    match read_settings(conf) {
+        Settings::Empty => hold_session(alloc, plant, clock, entropy, source, sink),
+        Settings::NotEmpty => Status::NotBuilt,
+        Settings::Fault => Status::ReadFault { settings: true },
+    }
+}
+
+#[tactic(auto, using(crate::proofs::Runs::session_of, crate::proofs::Runs::refused_of))]
 fn hold_session<P: Plant, C: Clock, E: Entropy, S: Source, K: Sink>(
     alloc: Global,
     plant: &mut P,
@@ -108,18 +164,25 @@ fn hold_session<P: Plant, C: Clock, E: Entropy, S: Source, K: Sink>(
     source: &mut S,
     sink: &mut K,
 ) -> Status
-    ensures ends { EndsHeld result }
-    ensures disk { result ≡ Status.DiskFault → Rose (P.told plant.old).disk_faults (P.told plant.new).disk_faults }
-    ensures read { result ≡ Status.ReadFault false → Rose (S.told source.old).faults (S.told source.new).faults }
-    ensures write { result ≡ Status.WriteFault → Rose (K.told sink.old).faults (K.told sink.new).faults }
+    ensures holds { HoldsSession
+        (outside_of (P.told plant.old) (C.told clock.old) (S.told source.old) (K.told sink.old))
+        (outside_of (P.told plant.new) (C.told clock.new) (S.told source.new) (K.told sink.new)) result }
     ensures signer { LeavesSigner (P.told plant.old) (P.told plant.new) }
-    ensures later { (P.told plant.old).disk_faults ≤ (P.told plant.new).disk_faults }
+    ensures entropy { E.told entropy.new ≡ E.told entropy.old }
 {
     match Engine::start(alloc, plant, clock, &[]) {
         Ok(mut engine) => answer_messages(alloc, &mut engine, plant, clock, entropy, source, sink),
-        Err(StartFault::Disk) => Status::DiskFault,
-        Err(StartFault::NotBegun) => Status::NotBegun,
-        Err(StartFault::JournalBad { at }) => Status::JournalBad { at },
-        Err(StartFault::NoMemory) => Status::NoMemory,
+        Err(fault) => start_status(fault),
+    }
+}
+
+fn start_status(fault: StartFault) -> Status
+    ensures { IsStartStatus fault result }
+{
+    match fault {
+        StartFault::Disk => Status::DiskFault,
+        StartFault::NotBegun => Status::NotBegun,
+        StartFault::JournalBad { at } => Status::JournalBad { at },
+        StartFault::NoMemory => Status::NoMemory,
     }
 }

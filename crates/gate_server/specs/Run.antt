@@ -1,0 +1,129 @@
+-- What a run does, by its words.
+use Rattle.std.specs.Prelude.{◌≡◌, ◌≢◌, ℕ, ◌≤◌, ◌⊎◌, List, [], ◌∷◌, length, codes, Some, None, true, IfSome}
+use Rattle.std.specs.Option.{ForSome, option_map}
+use Rattle.std.specs.Io.KnownBytes.{IsAtEnd}
+use Rattle.gate_base.specs.declared.moment.Moment.{Moment}
+use Rattle.plant.specs.Causes.{Rose}
+use Rattle.plant.specs.Plant.{PlantTold}
+use Rattle.plant.specs.Clock.{ClockTold, Reads}
+use Rattle.plant.specs.Stream.{SourceTold, SinkTold}
+use Rattle.journal_core.specs.Journal.{StandsFor, journal_of}
+use Rattle.gate_machine.specs.History.{Legal}
+use Rattle.gate_machine.specs.Answer.{IsInRange, IsOutOfRange}
+use Rattle.gate_machine.specs.Step.{Held}
+use Rattle.gate_engine.specs.declared.fault.StartFault.{StartFault}
+use Rattle.gate_engine.specs.declared.fault.StartFault.TheVariants as starts
+use Rattle.gate_engine.specs.Engine.{payloads_of, first_history, StandsForPlant, RefusesStart}
+use Rattle.gate_server.specs.declared.running.Word.{Word}
+use Rattle.gate_server.specs.declared.running.Word.TheVariants as asked
+use Rattle.gate_server.specs.declared.status.Status.{Status}
+use Rattle.gate_server.specs.declared.status.Status.TheVariants as statuses
+use Rattle.gate_server.specs.Session.{talk_of, begun, Ended}
+
+-- the one word that is known
+abbrev pub IsWord : List (List ℕ) → Word → Type 0
+IsWord words asked.Begin = words ≡ codes "begin" ∷ []
+IsWord words asked.Session = words ≡ codes "session" ∷ []
+IsWord words asked.Other = (words ≢ codes "begin" ∷ []) × (words ≢ codes "session" ∷ [])
+
+-- the outside, but for the settings and the random draws
+pub record Outside : Type 0 where
+  pub plant : PlantTold
+  pub clock : ClockTold
+  pub source : SourceTold
+  pub sink : SinkTold
+
+abbrev pub outside_of : PlantTold → ClockTold → SourceTold → SinkTold → Outside
+outside_of plant clock source sink = record { plant = plant; clock = clock; source = source; sink = sink }
+
+-- the settings could not be read, or they aren't empty
+abbrev pub RefusesSettings : SourceTold → SourceTold → Status → Type 0
+RefusesSettings conf conf' status =
+    ((status ≡ statuses.ReadFault true) × Rose conf.faults conf'.faults) ⊎ ((status ≡ statuses.NotBuilt) × IfSome conf.left (λ left. 1 ≤ length left))
+
+-- the status that a refused start ends with
+abbrev pub IsStartStatus : StartFault → Status → Type 0
+IsStartStatus starts.Disk status = status ≡ statuses.DiskFault
+IsStartStatus starts.NotBegun status = status ≡ statuses.NotBegun
+IsStartStatus (starts.JournalBad at) status = status ≡ statuses.JournalBad at
+IsStartStatus starts.NoMemory status = status ≡ statuses.NoMemory
+
+-- the engine didn't start, for a reason that lies in the bytes, in the disk, or in memory; nothing was written or taken
+pub record Refused (old new : Outside) (status : Status) : Type 0 where
+  pub fault : StartFault
+  pub told : IsStartStatus fault status
+  pub refused : ForSome old.plant.bytes (λ bytes. RefusesStart fault bytes)
+  pub cause : fault ≡ starts.Disk → Rose old.plant.disk_faults new.plant.disk_faults
+  pub bytes : new.plant.bytes ≡ old.plant.bytes
+  pub clock : new.clock ≡ old.clock
+  pub source : new.source ≡ old.source
+  pub sink : new.sink ≡ old.sink
+
+-- the disk held the journal of a legal history; messages were taken, asked and answered; the disk holds the journal of the history
+-- that their steps lead to, where its count of faults didn't rise
+pub record Session (old new : Outside) (status : Status) : Type 0 where
+  pub before : Held
+  pub settled : before.loose ≡ None
+  pub legal : Legal before.history
+  pub stood : StandsFor (payloads_of before.history) old.plant.bytes
+  pub mounted : PlantTold
+  pub later : old.plant.disk_faults ≤ mounted.disk_faults
+  pub after : Held
+  pub ended : Ended status (talk_of before mounted old.clock begun old.source old.sink) after new.plant new.clock new.source new.sink
+  pub stands : StandsForPlant after new.plant
+  pub kept : (Rose old.plant.disk_faults new.plant.disk_faults → ⊥) → StandsFor (payloads_of after.history) new.plant.bytes
+
+abbrev pub HoldsSession : Outside → Outside → Status → Type 0
+HoldsSession old new status = Refused old new status ⊎ Session old new status
+
+abbrev pub RunsSession : SourceTold → SourceTold → Outside → Outside → Status → Type 0
+RunsSession conf conf' old new status =
+    (RefusesSettings conf conf' status × (new ≡ old)) ⊎ (IsAtEnd conf.left × HoldsSession old new status)
+
+-- a journal was begun on an empty disk: it holds the settings of this moment
+pub record Began (reading : ℕ) (plant plant' : PlantTold) : Type 0 where
+  pub empty : ForSome plant.bytes (λ bytes. bytes ≡ [])
+  pub bytes : plant'.bytes ≡ option_map (λ _. journal_of (payloads_of (first_history (record { 0 = reading })))) plant.bytes
+  pub legal : Legal (first_history (record { 0 = reading }))
+
+-- the disk isn't empty, and stays as it was
+pub record Occupied (count : ℕ) (plant plant' : PlantTold) : Type 0 where
+  pub some : 1 ≤ count
+  pub size : ForSome plant.bytes (λ bytes. (length bytes ≡ count) × (plant'.bytes ≡ plant.bytes))
+
+abbrev pub Begins : ℕ → PlantTold → PlantTold → Status → Type 0
+Begins reading plant plant' statuses.Ok = Began reading plant plant'
+Begins reading plant plant' (statuses.NotEmpty count) = Occupied count plant plant'
+Begins reading plant plant' statuses.DiskFault = Rose plant.disk_faults plant'.disk_faults
+Begins reading plant plant' statuses.NoMemory = plant'.bytes ≡ plant.bytes
+Begins reading plant plant' statuses.NotBuilt = ⊥
+Begins reading plant plant' (statuses.ReadFault settings) = ⊥
+Begins reading plant plant' statuses.WriteFault = ⊥
+Begins reading plant plant' statuses.StreamLong = ⊥
+Begins reading plant plant' statuses.NotBegun = ⊥
+Begins reading plant plant' (statuses.JournalBad at) = ⊥
+Begins reading plant plant' statuses.Usage = ⊥
+Begins reading plant plant' statuses.ClockFault = ⊥
+Begins reading plant plant' (statuses.ClockRange given) = ⊥
+
+-- a journal is begun at the reading that the clock gave
+pub record BeginsRead (plant plant' : PlantTold) (clock clock' : ClockTold) (status : Status) : Type 0 where
+  pub reading : ℕ
+  pub reads : Reads clock clock' (Some reading)
+  pub does : ((status ≡ statuses.ClockRange reading) × IsOutOfRange reading × (plant' ≡ plant)) ⊎ (IsInRange reading × Begins reading plant plant' status)
+
+abbrev pub BeginsJournal : PlantTold → PlantTold → ClockTold → ClockTold → Status → Type 0
+BeginsJournal plant plant' clock clock' status =
+    ((status ≡ statuses.ClockFault) × Reads clock clock' None × (plant' ≡ plant)) ⊎ BeginsRead plant plant' clock clock' status
+
+pub record RunsBegin (conf conf' : SourceTold) (old new : Outside) (status : Status) : Type 0 where
+  pub source : new.source ≡ old.source
+  pub sink : new.sink ≡ old.sink
+  pub does : (RefusesSettings conf conf' status × (new.plant ≡ old.plant) × (new.clock ≡ old.clock))
+      ⊎ (IsAtEnd conf.left × BeginsJournal old.plant new.plant old.clock new.clock status)
+
+-- what a run does
+abbrev pub Runs : Word → SourceTold → SourceTold → Outside → Outside → Status → Type 0
+Runs asked.Begin conf conf' old new status = RunsBegin conf conf' old new status
+Runs asked.Session conf conf' old new status = RunsSession conf conf' old new status
+Runs asked.Other conf conf' old new status = (status ≡ statuses.Usage) × (new ≡ old)
