@@ -1,0 +1,14 @@
+use Rattle.std.proofs.Common.{length, ap, arith}
+use Rattle.gate_server.proofs.running.begin_at.Goals as goal
+
+pub returns-in-Err-NotEmpty-clause-begins : goal.returns-in-Err-NotEmpty-clause-begins
+returns-in-Err-NotEmpty-clause-begins g c =
+    let count = c.in-Err-NotEmpty.length in
+    let told = c.in-Err-NotEmpty.ensures in
+    let is = c.in-Err-NotEmpty.field-0-is in
+    record {
+      some = told.some count is;
+      size = λ bytes held.
+          let size = told.not_empty count is bytes held in
+          (size, told.kept bytes held (λ none. omega (arith, told.some count is, size, ap length none)));
+    }
