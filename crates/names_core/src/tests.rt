@@ -22,12 +22,70 @@ fn names_and_their_faults(rt: HostRuntime) -> Result<(), Fail> {
         ("-a", NameFault::BadHyphen),
         ("a-", NameFault::BadHyphen),
         ("ab--c", NameFault::BadHyphen),
+        ("xn--c", NameFault::BadPunycode),
         ("xn--a-b-c", NameFault::BadPunycode),
         ("a.*.b", NameFault::BadStar),
-        ("a_b.-c", NameFault::BadByte),
     ] {
         let read = read_name(rt.alloc(), text.as_bytes());
         assert_eq!(rt; read.err(), Some(NameRead::Fault(fault)), "{text}");
+    }
+    Ok(())
+}
+
+#[test]
+fn the_first_of_two_faults_is_told(rt: HostRuntime) -> Result<(), Fail> {
+    for (text, fault) in [
+        ("_.", NameFault::Empty),
+        ("-.", NameFault::Empty),
+        ("xn--c.", NameFault::Empty),
+        ("a.*.", NameFault::Empty),
+        ("*.*.", NameFault::Empty),
+        ("_-", NameFault::BadByte),
+        ("a_b.-c", NameFault::BadByte),
+        ("xn--c_", NameFault::BadByte),
+        ("xn--c._", NameFault::BadByte),
+        ("*_", NameFault::BadByte),
+        ("-.xn--c", NameFault::BadHyphen),
+        ("xn---", NameFault::BadHyphen),
+        ("-*", NameFault::BadHyphen),
+        ("xn--*", NameFault::BadPunycode),
+        ("a.*.xn--c", NameFault::BadPunycode),
+    ] {
+        let read = read_name(rt.alloc(), text.as_bytes());
+        assert_eq!(rt; read.err(), Some(NameRead::Fault(fault)), "{text}");
+    }
+    Ok(())
+}
+
+/// A piece so many times, and an end behind it.
+#[test]
+fn the_first_of_two_faults_of_long_texts_is_told(rt: HostRuntime) -> Result<(), Fail> {
+    for (piece, count, end, fault) in [
+        ("a", 64usize, "", NameFault::LongLabel),
+        ("a", 64, ".b", NameFault::LongLabel),
+        ("a", 64, "_", NameFault::LongLabel),
+        ("a", 64, "-", NameFault::LongLabel),
+        ("a", 64, ".xn--c", NameFault::LongLabel),
+        ("a", 64, "*", NameFault::LongLabel),
+        ("a", 64, ".", NameFault::Empty),
+        ("a", 254, "", NameFault::LongLabel),
+        ("a.", 127, "", NameFault::Empty),
+        ("a.", 127, "_", NameFault::LongName),
+        ("a.", 127, "-", NameFault::LongName),
+        ("a.", 127, "xn--c", NameFault::LongName),
+        ("a.", 127, "*", NameFault::LongName),
+    ] {
+        let mut text = Vec::new(rt.alloc());
+        for _ in 0..count {
+            text.extend_from_slice(piece.as_bytes())?;
+        }
+        text.extend_from_slice(end.as_bytes())?;
+        let read = read_name(rt.alloc(), &text);
+        assert_eq!(rt;
+            read.err(),
+            Some(NameRead::Fault(fault)),
+            "{piece} {count} {end}"
+        );
     }
     Ok(())
 }
@@ -144,6 +202,12 @@ fn targets_and_their_texts(rt: HostRuntime) -> Result<(), Fail> {
         "2001:0db8:0000:0000:0000:ff00:0042",
         "2001:0db8:0000:0000:0000:ff00:0042:8329:0000",
         "a:b",
+        "..7",
+        "a_b.7",
+        "a_b:",
+        "-.7",
+        "xn--c.7",
+        "*.7",
     ] {
         let read = read_target(rt.alloc(), text.as_bytes());
         assert_eq!(rt;
