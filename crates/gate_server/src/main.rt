@@ -8,6 +8,8 @@ mod running;
 mod session;
 mod status;
 mod streaming;
+#[cfg(test)]
+mod tests;
 
 use std::process::ExitCode;
 
