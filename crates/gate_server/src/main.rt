@@ -5,6 +5,8 @@ mod opening;
 mod running;
 mod session;
 mod status;
+#[cfg(test)]
+mod tests;
 
 use std::process::ExitCode;
 

@@ -2,17 +2,29 @@ use crate::{
     NameFault, NameRead, SuffixFault, Suffixes, is_reserved, read_name, read_target, target_text,
 };
 use gate_base::{Address, Target};
-use std::test::Fail;
+use std::alloc::Global;
+use std::process::Abort;
+
+/// A label of 63 bytes, and the full stop behind it.
+const LABEL: &str = "aaaaaaaaaaaaaaaaaaaaaaaaaaaaaaaaaaaaaaaaaaaaaaaaaaaaaaaaaaaaaaa.";
+
+fn name_fault(alloc: Global, text: &[u8]) -> Option<NameRead> {
+    read_name(alloc, text).err()
+}
+
+fn target_fault(alloc: Global, text: &str) -> Option<NameRead> {
+    read_target(alloc, text.as_bytes()).err()
+}
 
 #[test]
-fn names_and_their_faults(rt: HostRuntime) -> Result<(), Fail> {
+fn names_and_their_faults(rt: HostRuntime) {
     for text in [
         "example.com",
         "Example.COM",
         "*.a-b.example",
         "xn--bcher-kva.example",
     ] {
-        assert!(rt; read_name(rt.alloc(), text.as_bytes()).is_ok(), "{text}");
+        assert_eq!(rt; name_fault(rt.alloc(), text.as_bytes()), None, "{text}");
     }
     for (text, fault) in [
         ("", NameFault::Empty),
@@ -22,48 +34,97 @@ fn names_and_their_faults(rt: HostRuntime) -> Result<(), Fail> {
         ("-a", NameFault::BadHyphen),
         ("a-", NameFault::BadHyphen),
         ("ab--c", NameFault::BadHyphen),
+        ("xn--c", NameFault::BadPunycode),
         ("xn--a-b-c", NameFault::BadPunycode),
         ("a.*.b", NameFault::BadStar),
+    ] {
+        let told = name_fault(rt.alloc(), text.as_bytes());
+        assert_eq!(rt; told, Some(NameRead::Fault(fault)), "{text}");
+    }
+}
+
+#[test]
+fn the_first_of_two_faults_is_told(rt: HostRuntime) {
+    for (text, fault) in [
+        ("_.", NameFault::Empty),
+        ("-.", NameFault::Empty),
+        ("xn--c.", NameFault::Empty),
+        ("a.*.", NameFault::Empty),
+        ("*.*.", NameFault::Empty),
+        ("_-", NameFault::BadByte),
         ("a_b.-c", NameFault::BadByte),
+        ("xn--c_", NameFault::BadByte),
+        ("xn--c._", NameFault::BadByte),
+        ("*_", NameFault::BadByte),
+        ("-.xn--c", NameFault::BadHyphen),
+        ("xn---", NameFault::BadHyphen),
+        ("-*", NameFault::BadHyphen),
+        ("xn--*", NameFault::BadPunycode),
+        ("a.*.xn--c", NameFault::BadPunycode),
     ] {
-        let read = read_name(rt.alloc(), text.as_bytes());
-        assert_eq!(rt; read.err(), Some(NameRead::Fault(fault)), "{text}");
+        let told = name_fault(rt.alloc(), text.as_bytes());
+        assert_eq!(rt; told, Some(NameRead::Fault(fault)), "{text}");
     }
-    Ok(())
+}
+
+fn push_times(rt: &impl Abort, text: &mut Vec<u8>, piece: &str, count: usize) {
+    for _ in 0..count {
+        text.extend_from_slice(piece.as_bytes())
+            .expect(rt, "memory");
+    }
+}
+
+/// The front, so many labels of 63 bytes, and a piece so many times.
+fn long_text(
+    rt: &impl Abort,
+    alloc: Global,
+    front: &str,
+    labels: usize,
+    piece: &str,
+    count: usize,
+) -> Vec<u8> {
+    let mut text = Vec::new(alloc);
+    push_times(rt, &mut text, front, 1);
+    push_times(rt, &mut text, LABEL, labels);
+    push_times(rt, &mut text, piece, count);
+    text
 }
 
 #[test]
-fn lengths_at_their_limits(rt: HostRuntime) -> Result<(), Fail> {
-    let label = [b'a'; 63];
-    let mut text = Vec::new(rt.alloc());
-    for _ in 0..3 {
-        text.extend_from_slice(&label)?;
-        text.push(b'.')?;
-    }
-    for (last, star, fault) in [
-        (61usize, false, None),
-        (62, false, Some(NameFault::LongName)),
-        (59, true, None),
-        (60, true, Some(NameFault::LongName)),
-        (64, true, Some(NameFault::LongLabel)),
+fn lengths_at_their_limits(rt: HostRuntime) {
+    for (front, labels, piece, count, fault) in [
+        ("", 3usize, "b", 61usize, None),
+        ("", 3, "b", 62, Some(NameFault::LongName)),
+        ("*.", 3, "b", 59, None),
+        ("*.", 3, "b", 60, Some(NameFault::LongName)),
+        ("", 0, "a", 63, None),
+        ("", 0, "a", 64, Some(NameFault::LongLabel)),
+        // and the first of two faults
+        ("*.", 3, "b", 64, Some(NameFault::LongLabel)),
+        ("", 0, "a", 254, Some(NameFault::LongLabel)),
+        ("_.", 0, "a", 64, Some(NameFault::LongLabel)),
+        ("", 0, "_", 64, Some(NameFault::LongLabel)),
+        ("-.", 0, "a", 64, Some(NameFault::LongLabel)),
+        ("", 0, "-", 64, Some(NameFault::LongLabel)),
+        ("xn--c.", 0, "a", 64, Some(NameFault::LongLabel)),
+        ("xn--", 0, "9", 60, Some(NameFault::LongLabel)),
+        ("a.*.", 0, "a", 64, Some(NameFault::LongLabel)),
+        ("", 0, "*", 64, Some(NameFault::LongLabel)),
+        (".", 0, "a", 64, Some(NameFault::Empty)),
+        ("", 0, "a.", 127, Some(NameFault::Empty)),
+        ("_", 0, ".a", 127, Some(NameFault::LongName)),
+        ("-", 0, ".a", 127, Some(NameFault::LongName)),
+        ("xn--c", 0, ".a", 127, Some(NameFault::LongName)),
+        ("a.*", 0, ".a", 127, Some(NameFault::LongName)),
     ] {
-        let mut whole = if star {
-            b"*.".to_vec(rt.alloc())?
-        } else {
-            Vec::new(rt.alloc())
-        };
-        whole.extend_from_slice(&text)?;
-        for _ in 0..last {
-            whole.push(b'b')?;
-        }
-        let read = read_name(rt.alloc(), &whole);
-        assert_eq!(rt; read.err(), fault.map(NameRead::Fault), "{last}");
+        let text = long_text(&rt, rt.alloc(), front, labels, piece, count);
+        let told = name_fault(rt.alloc(), &text);
+        assert_eq!(rt; told, fault.map(NameRead::Fault), "{front} {piece} {count}");
     }
-    Ok(())
 }
 
 #[test]
-fn reserved_blocks_at_their_ends(rt: HostRuntime) -> Result<(), Fail> {
+fn reserved_blocks_at_their_ends(rt: HostRuntime) {
     for (first, last) in [
         (0x0000_0000u32, 0x00FF_FFFFu32),
         (0x0A00_0000, 0x0AFF_FFFF),
@@ -107,60 +168,82 @@ fn reserved_blocks_at_their_ends(rt: HostRuntime) -> Result<(), Fail> {
         let address = Address::V6([a, b, c, d, 0, 0, 0, 0, 0, 0, 0, 0, 0, 0, 0, 1]);
         assert_eq!(rt; is_reserved(&address), reserved, "{first:x}");
     }
-    Ok(())
+}
+
+/// The text of the target that a text is read to, behind another text.
+fn text_behind(rt: &impl Abort, alloc: Global, front: &str, text: &str) -> Vec<u8> {
+    let target = read_target(alloc, text.as_bytes()).expect(rt, "a target");
+    let mut out = front.as_bytes().to_vec(alloc).expect(rt, "memory");
+    target_text(&target, &mut out).expect(rt, "memory");
+    out
 }
 
 #[test]
-fn targets_and_their_texts(rt: HostRuntime) -> Result<(), Fail> {
+fn targets_and_their_texts(rt: HostRuntime) {
     for (text, want) in [
-        ("Example.COM", "example.com"),
-        ("*.a.example", "*.a.example"),
-        ("0.10.200.255", "0.10.200.255"),
+        ("Example.COM", "> example.com"),
+        ("*.a.example", "> *.a.example"),
+        ("0.10.200.255", "> 0.10.200.255"),
         (
             "2001:0db8:0000:0000:0000:ff00:0042:8329",
-            "2001:0db8:0000:0000:0000:ff00:0042:8329",
+            "> 2001:0db8:0000:0000:0000:ff00:0042:8329",
         ),
     ] {
-        let target = read_target(rt.alloc(), text.as_bytes())?;
-        let mut out = b"> ".to_vec(rt.alloc())?;
-        target_text(&target, &mut out)?;
-        assert_eq!(rt; &out[..2], b"> ".as_slice());
-        assert_eq!(rt; &out[2..], want.as_bytes());
-    }
-    assert_eq!(rt;
-        read_target(rt.alloc(), b"1.2.3.4")?,
-        Target::Ip(Address::V4([1, 2, 3, 4]))
-    );
-    for text in [
-        "10.0.0.01",
-        "10.0.0",
-        "10.0.0.256",
-        "1.2.3.4.5",
-        "example.123",
-        "7",
-        "1..2.3",
-        "2001:db8::1",
-        "2001:0DB8:0000:0000:0000:ff00:0042:8329",
-        "2001:0db8:0000:0000:0000:ff00:0042",
-        "2001:0db8:0000:0000:0000:ff00:0042:8329:0000",
-        "a:b",
-    ] {
-        let read = read_target(rt.alloc(), text.as_bytes());
         assert_eq!(rt;
-            read.err(),
-            Some(NameRead::Fault(NameFault::BadAddress)),
-            "{text}"
+            &text_behind(&rt, rt.alloc(), "> ", text)[..],
+            want.as_bytes()
         );
     }
-    Ok(())
+    assert_eq!(rt;
+        read_target(rt.alloc(), b"1.2.3.4"),
+        Ok(Target::Ip(Address::V4([1, 2, 3, 4])))
+    );
+    for (text, fault) in [
+        ("10.0.0.01", NameFault::BadAddress),
+        ("10.0.0", NameFault::BadAddress),
+        ("10.0.0.256", NameFault::BadAddress),
+        ("1.2.3.4.5", NameFault::BadAddress),
+        ("example.123", NameFault::BadAddress),
+        ("7", NameFault::BadAddress),
+        ("1..2.3", NameFault::BadAddress),
+        ("2001:db8::1", NameFault::BadAddress),
+        (
+            "2001:0DB8:0000:0000:0000:ff00:0042:8329",
+            NameFault::BadAddress,
+        ),
+        ("2001:0db8:0000:0000:0000:ff00:0042", NameFault::BadAddress),
+        (
+            "2001:0db8:0000:0000:0000:ff00:0042:8329:0000",
+            NameFault::BadAddress,
+        ),
+        ("a:b", NameFault::BadAddress),
+        ("..7", NameFault::BadAddress),
+        ("a_b.7", NameFault::BadAddress),
+        ("a_b:", NameFault::BadAddress),
+        ("-.7", NameFault::BadAddress),
+        ("xn--c.7", NameFault::BadAddress),
+        ("*.7", NameFault::BadAddress),
+        ("", NameFault::Empty),
+        ("1.2.3.", NameFault::Empty),
+        ("1.2.3.4_", NameFault::BadByte),
+        ("7.-7", NameFault::BadHyphen),
+    ] {
+        let told = target_fault(rt.alloc(), text);
+        assert_eq!(rt; told, Some(NameRead::Fault(fault)), "{text}");
+    }
+}
+
+fn base_len(rt: &impl Abort, alloc: Global, suffixes: &Suffixes, name: &str) -> Option<u64> {
+    let name = read_name(alloc, name.as_bytes()).expect(rt, "a name");
+    suffixes.base_len(&name)
 }
 
 /// The cases are those of the test data of the public suffix list.
 #[test]
-fn bases_of_names(rt: HostRuntime) -> Result<(), Fail> {
+fn bases_of_names(rt: HostRuntime) {
     let text =
         "// a comment\n\ncom\r\nuk\nco.uk other words\n*.ck\n!www.ck\njp\n*.kobe.jp\n!city.kobe.jp\nb\u{FC}cher.test\n";
-    let suffixes = Suffixes::from_rules(rt.alloc(), text.as_bytes())?;
+    let suffixes = Suffixes::from_rules(rt.alloc(), text.as_bytes()).expect(&rt, "rules");
     for (name, want) in [
         ("com", None),
         ("example.com", Some(2)),
@@ -180,14 +263,16 @@ fn bases_of_names(rt: HostRuntime) -> Result<(), Fail> {
         ("a.xn--bcher-kva.test", Some(3)),
         ("example.test", None),
     ] {
-        let name = read_name(rt.alloc(), name.as_bytes())?;
-        assert_eq!(rt; suffixes.base_len(&name), want, "{name:?}");
+        assert_eq!(rt; base_len(&rt, rt.alloc(), &suffixes, name), want, "{name}");
     }
-    Ok(())
+}
+
+fn suffix_fault(alloc: Global, text: &[u8]) -> Option<SuffixFault> {
+    Suffixes::from_rules(alloc, text).err()
 }
 
 #[test]
-fn faults_of_rules(rt: HostRuntime) -> Result<(), Fail> {
+fn faults_of_rules(rt: HostRuntime) {
     for (text, line) in [
         ("com\na_b\n", 2),
         ("//\n\ncom\na..b\n*.", 4),
@@ -197,23 +282,12 @@ fn faults_of_rules(rt: HostRuntime) -> Result<(), Fail> {
         ("xn--a", 1),
         ("!", 1),
     ] {
-        let read = Suffixes::from_rules(rt.alloc(), text.as_bytes());
-        assert!(rt;
-            matches!(&read, Err(SuffixFault::Line(n)) if *n == line),
-            "{text}"
-        );
+        let told = suffix_fault(rt.alloc(), text.as_bytes());
+        assert_eq!(rt; told, Some(SuffixFault::Line(line)), "{text}");
     }
     let mut text = Vec::new(rt.alloc());
-    for _ in 0..16_384 {
-        text.extend_from_slice(b"a\n")?;
-    }
-    assert!(rt; Suffixes::from_rules(rt.alloc(), &text).is_ok());
-    text.extend_from_slice(b"-")?;
-    assert!(rt;
-        matches!(
-            Suffixes::from_rules(rt.alloc(), &text),
-            Err(SuffixFault::TooMany)
-        )
-    );
-    Ok(())
+    push_times(&rt, &mut text, "a\n", 16_384);
+    assert_eq!(rt; suffix_fault(rt.alloc(), &text), None);
+    push_times(&rt, &mut text, "-", 1);
+    assert_eq!(rt; suffix_fault(rt.alloc(), &text), Some(SuffixFault::TooMany));
 }

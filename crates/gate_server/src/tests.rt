@@ -1,0 +1,195 @@
+use crate::running::run;
+use crate::status::Status;
+use gate_base::{Bytes, Sequence};
+use plant::{ListClock, ListEntropy, MemoryPlant, MemorySink, MemorySource};
+use std::alloc::Global;
+use std::process::Abort;
+
+/// 2026-09-21T14:13:20Z.
+const MOMENT: u64 = 1_790_000_000;
+
+/// The head, and the record of empty settings at that moment.
+const BEGUN: &[u8] =
+    b"gate journal 00\n\0\0\0\x17\x01\0\0\0\0\0\0\0\x01\0\0\0\0\x6a\xb1\x3b\x80\0\0\0\0\0\0";
+
+const ORDER: &[u8] =
+    b"POST /orders HTTP/1.1\r\nhost: gate\r\nx-gate-key: acme-token\r\ncontent-length: 234\r\n\r\n\
+    {\"common\":false,\"days\":47,\"key\":\"k1\",\"names\":[\"example.com\"],\"request\":\"\
+    MHQwYgIBADAAMFkwEwYHKoZIzj0CAQYIKoZIzj0DAQcDQgAEERERERERERERERERERERERERERERERER\
+    EREREREREREREREREREREREREREREREREREREREREREREREREREREaAAMAoGCCqGSM49BAMCAwIAAA==\"}";
+
+/// Another order with the same key.
+const OTHER_ORDER: &[u8] =
+    b"POST /orders HTTP/1.1\r\nhost: gate\r\nx-gate-key: acme-token\r\ncontent-length: 252\r\n\r\n\
+    {\"common\":false,\"days\":47,\"key\":\"k1\",\"names\":[\"example.com\",\"www.example.com\"],\"request\":\"\
+    MHQwYgIBADAAMFkwEwYHKoZIzj0CAQYIKoZIzj0DAQcDQgAEERERERERERERERERERERERERERERERER\
+    EREREREREREREREREREREREREREREREREREREREREREREREREREREaAAMAoGCCqGSM49BAMCAwIAAA==\"}";
+
+/// The record of the order as entry 2 at that moment: what stands in front of its request, and the request.
+const ORDERED: &[u8] = b"\0\0\0\xa4\x02\0\0\0\0\0\0\0\x02\0\0\0\0\x6a\xb1\x3b\x80\
+    \0\x04acme\x02k1\0\0\x2f\x01\x01\0\x0bexample.com\0\x76\
+    \x30\x74\x30\x62\x02\x01\0\x30\0\x30\x59\x30\x13\x06\x07\x2a\x86\
+    \x48\xce\x3d\x02\x01\x06\x08\x2a\x86\x48\xce\x3d\x03\x01\x07\x03\x42\0\x04\
+    \x11\x11\x11\x11\x11\x11\x11\x11\x11\x11\x11\x11\x11\x11\x11\x11\x11\x11\x11\x11\x11\x11\
+    \x11\x11\x11\x11\x11\x11\x11\x11\x11\x11\x11\x11\x11\x11\x11\x11\x11\x11\x11\x11\x11\x11\
+    \x11\x11\x11\x11\x11\x11\x11\x11\x11\x11\x11\x11\x11\x11\x11\x11\x11\x11\x11\x11\
+    \xa0\0\x30\x0a\x06\x08\x2a\x86\x48\xce\x3d\x04\x03\x02\x03\x02\0\0";
+
+const PLACED: &[u8] =
+    b"HTTP/1.1 200 OK\r\ncontent-type: application/json\r\ncontent-length: 28\r\n\r\n\
+    {\"order\":2,\"reply\":\"placed\"}";
+
+const KEY_REUSED: &[u8] =
+    b"HTTP/1.1 409 Conflict\r\ncontent-type: application/json\r\ncontent-length: 31\r\n\r\n\
+    {\"kept\":2,\"reply\":\"key_reused\"}";
+
+fn empty_plant(alloc: Global) -> MemoryPlant {
+    MemoryPlant::new(
+        alloc,
+        Bytes::new(alloc),
+        Bytes::new(alloc),
+        Sequence::new(alloc),
+    )
+}
+
+fn source(rt: &impl Abort, alloc: Global, bytes: &[u8]) -> MemorySource {
+    let bytes = Bytes::from_slice(alloc, bytes).expect(rt, "memory");
+    MemorySource::new(bytes, Sequence::new(alloc))
+}
+
+fn clock(rt: &impl Abort, alloc: Global) -> ListClock {
+    let readings = Sequence::from_slice(alloc, &[Some(MOMENT)]).expect(rt, "memory");
+    ListClock::new(readings)
+}
+
+fn word_alone(rt: &impl Abort, alloc: Global, word: &str) -> Vec<String> {
+    let word = String::from_str(alloc, word).expect(rt, "memory");
+    vec![in alloc; word].expect(rt, "memory")
+}
+
+/// The status of a run over the plant, and what it writes into the sink.
+fn status_of(
+    rt: &impl Abort,
+    alloc: Global,
+    plant: &mut MemoryPlant,
+    word: &str,
+    input: &[u8],
+    sink: &mut MemorySink,
+) -> Status {
+    let words = word_alone(rt, alloc, word);
+    let mut conf = source(rt, alloc, b"");
+    let mut input = source(rt, alloc, input);
+    let mut clock = clock(rt, alloc);
+    let mut entropy = ListEntropy::new(Sequence::new(alloc));
+    run(
+        alloc,
+        words.as_slice(),
+        &mut conf,
+        plant,
+        &mut clock,
+        &mut entropy,
+        &mut input,
+        sink,
+    )
+}
+
+/// A run over the plant ends well and writes exactly the output.
+fn succeeds(
+    rt: &impl Abort,
+    alloc: Global,
+    plant: &mut MemoryPlant,
+    word: &str,
+    input: &[u8],
+    output: &[u8],
+) {
+    let mut sink = MemorySink::new(alloc, Sequence::new(alloc));
+    let status = status_of(rt, alloc, plant, word, input, &mut sink);
+    assert_eq!(rt; status, Status::Ok);
+    assert_eq!(rt; sink.bytes(), output);
+}
+
+fn begun_plant(rt: &impl Abort, alloc: Global) -> MemoryPlant {
+    let mut plant = empty_plant(alloc);
+    succeeds(rt, alloc, &mut plant, "begin", b"", b"");
+    plant
+}
+
+/// A run over the plant ends so, and writes nothing.
+fn refuses(
+    rt: &impl Abort,
+    alloc: Global,
+    plant: &mut MemoryPlant,
+    word: &str,
+    input: &[u8],
+    want: Status,
+) {
+    let mut sink = MemorySink::new(alloc, Sequence::new(alloc));
+    let status = status_of(rt, alloc, plant, word, input, &mut sink);
+    assert_eq!(rt; status, want);
+    assert_eq!(rt; sink.bytes(), b"".as_slice());
+}
+
+/// The disk holds what `begin` wrote and this behind it; nothing was sent to the signer.
+fn holds(rt: &impl Abort, plant: &MemoryPlant, behind: &[u8]) {
+    assert_eq!(rt; plant.disk().get(..43), Some(BEGUN));
+    assert_eq!(rt; plant.disk().get(43..), Some(behind));
+    assert_eq!(rt; plant.sent().len(), 0);
+    assert_eq!(rt; plant.short(), 0);
+}
+
+fn twice(rt: &impl Abort, alloc: Global, bytes: &[u8]) -> Vec<u8> {
+    let mut both = bytes.to_vec(alloc).expect(rt, "memory");
+    both.extend_from_slice(bytes).expect(rt, "memory");
+    both
+}
+
+#[test]
+fn begin_writes_the_head_and_the_settings(rt: HostRuntime) {
+    let mut plant = begun_plant(&rt, rt.alloc());
+    holds(&rt, &plant, b"");
+    let again = Status::NotEmpty { length: 43 };
+    refuses(&rt, rt.alloc(), &mut plant, "begin", b"", again);
+    holds(&rt, &plant, b"");
+}
+
+#[test]
+fn a_session_without_an_order_writes_nothing(rt: HostRuntime) {
+    let mut plant = begun_plant(&rt, rt.alloc());
+    succeeds(&rt, rt.alloc(), &mut plant, "session", b"", b"");
+    let cut = Status::NotBuilt;
+    refuses(&rt, rt.alloc(), &mut plant, "session", b"POST /orders", cut);
+    holds(&rt, &plant, b"");
+}
+
+#[test]
+fn an_order_is_placed(rt: HostRuntime) {
+    let mut plant = begun_plant(&rt, rt.alloc());
+    succeeds(&rt, rt.alloc(), &mut plant, "session", ORDER, PLACED);
+    holds(&rt, &plant, ORDERED);
+}
+
+#[test]
+fn a_repeated_message_writes_nothing(rt: HostRuntime) {
+    let mut plant = begun_plant(&rt, rt.alloc());
+    let orders = twice(&rt, rt.alloc(), ORDER);
+    let replies = twice(&rt, rt.alloc(), PLACED);
+    succeeds(&rt, rt.alloc(), &mut plant, "session", &orders, &replies);
+    holds(&rt, &plant, ORDERED);
+    succeeds(&rt, rt.alloc(), &mut plant, "session", ORDER, PLACED);
+    holds(&rt, &plant, ORDERED);
+}
+
+#[test]
+fn a_reused_key_is_told(rt: HostRuntime) {
+    let mut plant = begun_plant(&rt, rt.alloc());
+    succeeds(&rt, rt.alloc(), &mut plant, "session", ORDER, PLACED);
+    succeeds(
+        &rt,
+        rt.alloc(),
+        &mut plant,
+        "session",
+        OTHER_ORDER,
+        KEY_REUSED,
+    );
+    holds(&rt, &plant, ORDERED);
+}
