@@ -1,7 +1,8 @@
 -- The one form of message so far: an order of the account `acme`, as the bytes of an HTTP/1.1 request with a JSON body.
-use Rattle.std.specs.Prelude.{◌≡◌, ◌≢◌, ℕ, ◌≤◌, List, [], ◌∷◌, ◌++◌, length, codes, decimal, Bool, ◌&&◌, ◌||◌, nat_le, if◌then◌else◌, IsTrue, false}
+use Rattle.std.specs.Prelude.{◌≡◌, ◌≢◌, ℕ, ◌≤◌, List, [], ◌∷◌, ◌++◌, length, codes, Bool, ◌&&◌, ◌||◌, nat_le, if◌then◌else◌, IsTrue, false}
 use Rattle.std.specs.List.{flat_map, list_all, AllByRecursion}
-use Rattle.base64.specs.GeneralPurpose.{encode_of}
+use Rattle.std.specs.Fmt.{decimal}
+use Rattle.base64.specs.GeneralPurpose.{encode_of, IsBytes}
 use Rattle.base64.specs.Engines.{standard}
 use Rattle.gate_base.specs.declared.name.Target.{Target}
 use Rattle.gate_base.specs.declared.name.Target.TheVariants.{Dns, Ip}
@@ -12,12 +13,15 @@ use Rattle.gate_entries.specs.Name.{name_text, is_name}
 use Rattle.wire_front.specs.declared.message.Found.{Found}
 use Rattle.wire_front.specs.declared.message.Found.TheVariants as found
 
--- a lower-case letter; such a letter or a digit
+-- a lower-case letter; a digit; one of both
 abbrev pub is_letter : ℕ → Bool
 is_letter byte = nat_le 97 byte && nat_le byte 122
 
+abbrev pub is_digit : ℕ → Bool
+is_digit byte = nat_le 48 byte && nat_le byte 57
+
 abbrev pub is_plain_byte : ℕ → Bool
-is_plain_byte byte = is_letter byte || (nat_le 48 byte && nat_le byte 57)
+is_plain_byte byte = is_letter byte || is_digit byte
 
 -- the text of a name, with `*.` in front where it is a wildcard; an address has none
 abbrev pub domain_text : Target → List ℕ
@@ -37,10 +41,13 @@ body_of (Order key targets days common request) =
     codes "{\"common\":false,\"days\":" ++ decimal days ++ codes ",\"key\":\"" ++ key ++ codes "\",\"names\":[" ++ names_text targets
     ++ codes "],\"request\":\"" ++ encode_of standard request ++ codes "\"}"
 
+-- a body behind its head
+abbrev pub framed : List ℕ → List ℕ
+framed body =
+    codes "POST /orders HTTP/1.1\r\nhost: gate\r\nx-gate-key: acme-token\r\ncontent-length: " ++ decimal (length body) ++ codes "\r\n\r\n" ++ body
+
 unfoldable pub message_of : Command → List ℕ
-message_of command =
-    codes "POST /orders HTTP/1.1\r\nhost: gate\r\nx-gate-key: acme-token\r\ncontent-length: " ++ decimal (length (body_of command))
-    ++ codes "\r\n\r\n" ++ body_of command
+message_of command = framed (body_of command)
 
 -- the last label begins with a letter
 abbrev pub last_begins_with_letter : List (List ℕ) → Bool
@@ -49,9 +56,12 @@ last_begins_with_letter ([] ∷ []) = false
 last_begins_with_letter ((byte ∷ bytes) ∷ []) = is_letter byte
 last_begins_with_letter (label ∷ next ∷ labels) = last_begins_with_letter (next ∷ labels)
 
--- a domain name, maybe a wildcard, of 1 to 253 bytes: its labels have 1 to 63 lower-case letters or digits
+-- a domain name of at most 253 bytes, with the `*.` of a wildcard: its labels have 1 to 63 lower-case letters or digits
+abbrev pub is_domain : Bool → List (List ℕ) → Bool
+is_domain wild labels = is_name wild labels && list_all (list_all is_plain_byte) labels && last_begins_with_letter labels
+
 abbrev pub IsDomain : Target → Type 0
-IsDomain (Dns name) = IsTrue (is_name name.wild name.labels) × IsTrue (list_all (list_all is_plain_byte) name.labels) × IsTrue (last_begins_with_letter name.labels)
+IsDomain (Dns name) = IsTrue (is_domain name.wild name.labels)
 IsDomain (Ip address) = ⊥
 
 -- no two are equal
@@ -59,19 +69,33 @@ abbrev pub AreDistinct : List Target → Type 0
 AreDistinct [] = Unit {0}
 AreDistinct (target ∷ targets) = AllByRecursion (λ other. other ≢ target) targets × AreDistinct targets
 
+-- 1 to 398 days
+abbrev pub IsDays : ℕ → Type 0
+IsDays days = (1 ≤ days) × (days ≤ 398)
+
+-- a retry key has 1 to 64 lower-case letters or digits
+abbrev pub is_key : List ℕ → Bool
+is_key key = nat_le 1 (length key) && nat_le (length key) 64 && list_all is_plain_byte key
+
+-- 1 to 100 domain names
+pub record AreNames (targets : List Target) : Type 0 where
+  pub some : 1 ≤ length targets
+  pub fit : length targets ≤ 100
+  pub each : AllByRecursion IsDomain targets
+  pub distinct : AreDistinct targets
+
+-- 1 to 16,384 bytes
+pub record IsRequest (request : List ℕ) : Type 0 where
+  pub some : 1 ≤ length request
+  pub fits : length request ≤ 16384
+  pub bytes : IsBytes request
+
 pub record IsOrderMessage (key : List ℕ) (targets : List Target) (days : ℕ) (common : Bool) (request : List ℕ) : Type 0 where
   pub plain : common ≡ false
-  pub days_some : 1 ≤ days
-  pub days_fit : days ≤ 398
-  pub key_some : 1 ≤ length key
-  pub key_fits : length key ≤ 64
-  pub key_plain : IsTrue (list_all is_plain_byte key)
-  pub names_some : 1 ≤ length targets
-  pub names_fit : length targets ≤ 100
-  pub names : AllByRecursion IsDomain targets
-  pub distinct : AreDistinct targets
-  pub request_some : 1 ≤ length request
-  pub request_fits : length request ≤ 16384
+  pub days_fit : IsDays days
+  pub key_fits : IsTrue (is_key key)
+  pub names_fit : AreNames targets
+  pub request_fits : IsRequest request
 
 -- a command that a message can say, in a body of at most 65,536 bytes
 abbrev pub IsSaid : Command → Type 0

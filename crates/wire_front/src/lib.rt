@@ -1,12 +1,17 @@
 //! The bytes that come in and go out: messages are read from a source, and replies are written.
 #![tactic(auto)]
 
+mod cutting;
 mod law;
 mod message;
+mod naming;
 mod replying;
 mod streaming;
 
 pub use law::one_passing;
-pub use message::{Found, find_message};
+pub use message::{Found, find_message, one_message};
 pub use replying::reply_text;
 pub use streaming::{Stream, Taken};
+
+#[cfg(test)]
+mod tests;
