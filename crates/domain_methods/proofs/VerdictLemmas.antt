@@ -10,7 +10,7 @@ use Rattle.gate_base.specs.declared.seen.WebSeen.{WebSeen}
 use Rattle.domain_methods.specs.declared.challenge.Challenge.{Challenge}
 use Rattle.domain_methods.specs.declared.verdict.Verdict.{Verdict}
 use Rattle.domain_methods.specs.declared.verdict.Verdict.TheVariants.{Good, Broken}
-use Rattle.domain_methods.specs.Rules.{Rule, M01, M02, M03, M04, M05, M06, M07, M08, M09, M10, M11, M12, IsVerdict, breaks, is_of_another_kind, is_out_of_time, number_of, rules, told, verdict_by, verdict_of}
+use Rattle.domain_methods.specs.Rules.{Rule, M01, M02, M03, M04, M05, M06, M07, M08, M09, M10, M11, M12, IsVerdict, breaks, is_of_another_kind, is_out_of_time, number_of, record_rules, rules, told, verdict_by, verdict_of, website_rules}
 
 -- ---- some rules, and then others
 
@@ -39,17 +39,17 @@ pub verdict_by-broken : (first others : List Rule) (c : Challenge) (seen : Seen)
 verdict_by-broken first others c seen at number is = broken_then (λ rule. breaks rule c seen at) first others number is
 
 abbrev later_rules : List Rule
-later_rules = M03 ∷ M04 ∷ M05 ∷ M06 ∷ M07 ∷ M08 ∷ M09 ∷ M10 ∷ M11 ∷ M12 ∷ []
+later_rules = record_rules ++ website_rules
 
 -- of the right kind and in time
 verdict_of-later : (c : Challenge) (seen : Seen) (at : ℕ) → is_of_another_kind c.method seen ≡ false → is_out_of_time c.made.0 at ≡ false → verdict_of c seen at ≡ verdict_by later_rules c seen at
 verdict_of-later c seen at kind time =
     verdict_by-good (M01 ∷ M02 ∷ []) later_rules c seen at (ap₂ (λ a b. told (cond a (Some M01) (cond b (Some M02) None))) kind time)
 
-pub verdict_of-records : (c : Challenge) (seen : Seen) (records : DnsSeen) (at : ℕ) → seen ≡ Dns records → is_of_another_kind c.method seen ≡ false → is_out_of_time c.made.0 at ≡ false → verdict_of c seen at ≡ verdict_by (M03 ∷ M04 ∷ []) c (Dns records) at
+pub verdict_of-records : (c : Challenge) (seen : Seen) (records : DnsSeen) (at : ℕ) → seen ≡ Dns records → is_of_another_kind c.method seen ≡ false → is_out_of_time c.made.0 at ≡ false → verdict_of c seen at ≡ verdict_by record_rules c (Dns records) at
 verdict_of-records c seen records at is kind time = verdict_of-later c seen at kind time ∙ ap (λ s. verdict_by later_rules c s at) is
 
-pub verdict_of-website : (c : Challenge) (seen : Seen) (website : WebSeen) (at : ℕ) → seen ≡ Web website → is_of_another_kind c.method seen ≡ false → is_out_of_time c.made.0 at ≡ false → verdict_of c seen at ≡ verdict_by (M05 ∷ M06 ∷ M07 ∷ M08 ∷ M09 ∷ M10 ∷ M11 ∷ M12 ∷ []) c (Web website) at
+pub verdict_of-website : (c : Challenge) (seen : Seen) (website : WebSeen) (at : ℕ) → seen ≡ Web website → is_of_another_kind c.method seen ≡ false → is_out_of_time c.made.0 at ≡ false → verdict_of c seen at ≡ verdict_by website_rules c (Web website) at
 verdict_of-website c seen website at is kind time = verdict_of-later c seen at kind time ∙ ap (λ s. verdict_by later_rules c s at) is
 
 -- ---- what a verdict says

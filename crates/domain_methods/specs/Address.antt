@@ -76,9 +76,10 @@ acme_folder = codes "/.well-known/acme-challenge/"
 -- a file of the folder, over http or https (BR, section 3.2.2.4.18)
 abbrev pub is_validation_file : Parts → Bool
 is_validation_file url =
-    is_web_address url && starts_with nat_eq url.path validation_folder && nat_lt (length validation_folder) (length url.path)
+    is_web_address url && starts_with nat_eq url.path validation_folder
+    && nat_lt (length validation_folder) (length url.path)
 
--- the file that is named by the token, over http on its own port, and with no query (RFC 8555, section 8.3; for addresses RFC 8738)
+-- the file that is named by the token, over http on its own port, and with no query (RFC 8555, section 8.3; RFC 8738)
 abbrev pub is_token_file : List ℕ → Parts → Bool
 is_token_file token url =
     is_http url && is_port 80 (port_of url) && bytes_eq url.path (acme_folder ++ token) && is_none url.query
@@ -91,4 +92,5 @@ is_file_of AcmeHttp token url = is_token_file token url
 
 -- the first address that a challenge demands: of such a file on the target's host, with no fragment
 abbrev pub is_demanded : Challenge → Parts → Bool
-is_demanded c url = is_host_of c.target (nonempty_host url) && is_none url.fragment && is_file_of c.method (value_text c) url
+is_demanded c url =
+    is_host_of c.target (nonempty_host url) && is_none url.fragment && is_file_of c.method (value_text c) url

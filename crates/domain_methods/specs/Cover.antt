@@ -10,8 +10,8 @@ use Rattle.gate_base.specs.declared.seen.Method.TheVariants.{DnsChange, WebChang
 use Rattle.names_core.specs.declared.rule.Rule.{Rule}
 use Rattle.names_core.specs.Suffix.{base_len, labels_eq}
 
--- The proved name is an Authorization Domain Name of the wanted one (BR, section 1.6.1): the wanted name, with or without its `*.`,
--- less labels from the left, down to its Base Domain Name at most. There has to be one.
+-- The proved name is an Authorization Domain Name of the wanted one (BR, section 1.6.1): what is left of the wanted name,
+-- without its `*.`, where labels are taken off from the left, down to its Base Domain Name at most. It has to have one.
 pub record IsAuthorizationName (proved wanted : Name) (rules : List Rule) : Type 0 where
   pub plain : proved.wild ≡ false
   pub front : List (List ℕ)
@@ -49,7 +49,8 @@ is_within count (Some base) = nat_le base count
 
 abbrev pub is_authorization_name : Name → Name → List Rule → Bool
 is_authorization_name proved wanted rules =
-    not proved.wild && is_within (length proved.labels) (base_len rules wanted.labels) && ends_with bytes_eq wanted.labels proved.labels
+    not proved.wild && is_within (length proved.labels) (base_len rules wanted.labels)
+    && ends_with bytes_eq wanted.labels proved.labels
 
 abbrev pub covers_below : Target → Target → List Rule → Bool
 covers_below (Dns proved) (Dns wanted) rules = is_authorization_name proved wanted rules

@@ -1,7 +1,7 @@
--- The rules by which what a perspective saw confirms a challenge, after the Baseline Requirements, sections 3.2.2.4.7 (DNS
--- change), 3.2.2.4.18 (agreed-upon change to a website) and 3.2.2.4.19 (the same by ACME); the two on websites serve addresses
--- too (section 3.2.2.5; RFC 8738).
-use Rattle.std.specs.Prelude.{◌≡◌, ℕ, ◌+◌, ◌<◌, Bool, true, false, IsTrue, IsFalse, not, ◌&&◌, ◌||◌, ◌==◌, nat_lt, nat_le, nat_eq, List, [], ◌-◌, ◌∷◌, length, take, drop, bytes_eq, Option, Some, None}
+-- The rules by which what a perspective saw confirms a challenge, after the Baseline Requirements ("BR"), sections
+-- 3.2.2.4.7 (DNS change), 3.2.2.4.18 (agreed-upon change to a website) and 3.2.2.4.19 (the same by ACME). Those on
+-- websites serve for addresses too (section 3.2.2.5; RFC 8738).
+use Rattle.std.specs.Prelude.{◌≡◌, ℕ, ◌+◌, ◌<◌, Bool, true, false, IsTrue, IsFalse, not, ◌&&◌, ◌||◌, ◌==◌, nat_lt, nat_le, nat_eq, List, [], ◌-◌, ◌∷◌, ◌++◌, length, take, drop, bytes_eq, Option, Some, None}
 use Rattle.std.specs.Char.{is_ascii_alphanumeric, is_ascii_whitespace}
 use Rattle.std.specs.Int.{is_in_range}
 use Rattle.std.specs.List.{list_any, list_all, find, starts_with, before_first, prefix_len, suffix_len}
@@ -31,8 +31,8 @@ abbrev pub is_of_dns : Seen → Bool
 is_of_dns (Dns seen) = true
 is_of_dns (Web seen) = false
 
--- 1: a method is followed as it stands, and no evidence of one serves another (BR, section 3.2.2.4): records of DNS for a change
--- in DNS, a fetched file for the two others
+-- 1: what was seen is not what the method looks at: records for a change in DNS, a fetched file for the two others
+-- (BR, sections 3.2.2.4.7, 3.2.2.4.18 and 3.2.2.4.19)
 abbrev pub is_of_another_kind : Method → Seen → Bool
 is_of_another_kind DnsChange seen = not (is_of_dns seen)
 is_of_another_kind WebChange seen = is_of_dns seen
@@ -66,7 +66,8 @@ points_to text cname = str_eq_ignore_ascii_case (before_first is_full_stop cname
 
 -- 4: no TXT record is the random value, and no CNAME points to it
 abbrev pub lacks_record : Challenge → DnsSeen → Bool
-lacks_record c seen = not (list_any (bytes_eq (value_text c)) seen.txts || list_any (points_to (value_text c)) seen.cnames)
+lacks_record c seen =
+    not (list_any (bytes_eq (value_text c)) seen.txts || list_any (points_to (value_text c)) seen.cnames)
 
 -- ---- files of websites (BR, sections 3.2.2.4.18 and 3.2.2.4.19)
 
@@ -214,3 +215,21 @@ verdict_by some c seen at = told (find (λ rule. breaks rule c seen at) some)
 
 abbrev pub verdict_of : Challenge → Seen → ℕ → Verdict
 verdict_of c seen at = verdict_by rules c seen at
+
+-- ---- in parts
+
+-- the rules on records of DNS
+abbrev pub record_rules : List Rule
+record_rules = M03 ∷ M04 ∷ []
+
+-- the rules on the way to a file: its first address, the redirects, the final status
+abbrev pub way_rules : List Rule
+way_rules = M05 ∷ M06 ∷ M07 ∷ M08 ∷ M09 ∷ M10 ∷ []
+
+-- the rules on what the file holds
+abbrev pub content_rules : List Rule
+content_rules = M11 ∷ M12 ∷ []
+
+-- the rules on websites
+abbrev pub website_rules : List Rule
+website_rules = way_rules ++ content_rules

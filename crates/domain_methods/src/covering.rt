@@ -11,8 +11,8 @@ fn is_authorization_name(proved: &Name, wanted: &Name, s: &Suffixes) -> bool
     let Some(base) = s.base_len(wanted) else {
         return false;
     };
-    !proved.wild
-        && base <= proved.labels.len() as u64
+    base <= proved.labels.len() as u64
+        && !proved.wild
         && wanted.labels.as_slice().ends_with(proved.labels.as_slice())
 }
 
@@ -50,7 +50,7 @@ fn covers_by(method: Method, proved: &Target, wanted: &Target, s: &Suffixes) -> 
 /// Whether evidence by a method on one target covers another.
 pub fn covers(method: Method, proved: &Target, wanted: &Target, s: &Suffixes) -> bool
     ensures exact { result ≡ spec.covers method proved.now wanted.now s.now }
-    // DNS changes prove a name for itself and the names below it, down from its base domain; a website proves its host alone.
+    // A change in DNS proves a name for itself and all below it; a website proves its host alone.
     ensures meaning { IsTrue result ↔ Covers method proved.now wanted.now s.now }
 {
     covers_by(method, proved, wanted, s)

@@ -1,12 +1,11 @@
 //! Changes in DNS.
 
-ghost use Rattle.std.specs.Prelude.{◌≡◌, ℕ, [], ◌∷◌, bytes_eq};
+ghost use Rattle.std.specs.Prelude.{◌≡◌, ℕ, bytes_eq};
 ghost use Rattle.std.specs.List.{before_first, list_all, list_any, position};
 ghost use Rattle.names_core.specs.Name.{is_full_stop};
 ghost use Rattle.gate_base.specs.declared.seen.Seen.TheVariants as kinds;
 ghost use Rattle.domain_methods.specs.Rules as rules;
-ghost use Rattle.domain_methods.specs.Rules.Rule.{M03, M04};
-ghost use Rattle.domain_methods.specs.Rules.{is_prefix_byte, points_to, verdict_by};
+ghost use Rattle.domain_methods.specs.Rules.{is_prefix_byte, points_to, record_rules, verdict_by};
 ghost use Rattle.domain_methods.specs.Value.{value_text};
 
 use crate::challenge::Challenge;
@@ -74,7 +73,7 @@ fn any_points_to(text: &[u8], cnames: &[Bytes]) -> bool
 /// The verdict by the rules on records.
 pub fn judge_records(c: &Challenge, value: &[u8], seen: &DnsSeen) -> Verdict
     requires value { value.now ≡ value_text c.now }
-    ensures { (at : ℕ) → result ≡ verdict_by (M03 ∷ M04 ∷ []) c.now (kinds.Dns seen.now) at }
+    ensures { (at : ℕ) → result ≡ verdict_by record_rules c.now (kinds.Dns seen.now) at }
 {
     if !is_prefix(seen.prefix.as_slice()) {
         return Verdict::Broken(3);

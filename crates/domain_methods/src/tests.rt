@@ -636,64 +636,104 @@ fn redirects(rt: HostRuntime) -> Result<(), Fail> {
     Ok(())
 }
 
-#[test]
-fn kinds_and_times(rt: HostRuntime) -> Result<(), Fail> {
-    let alloc = rt.alloc();
-    let dns = records(alloc, "", TEXT, "")?;
-    let web = website(alloc, FILE, Hops::new(alloc), 200, TEXT)?;
-    for (method, by_dns, by_web) in [
-        (Method::DnsChange, 0, 1),
-        (Method::WebChange, 1, 0),
-        (Method::AcmeHttp, 1, 5),
-    ] {
-        let c = challenge(alloc, "example.com", method)?;
-        assert_eq!(rt; rule(alloc, &c, &dns, MADE)?, by_dns, "{method:?}");
-        assert_eq!(rt; rule(alloc, &c, &web, MADE)?, by_web, "{method:?}");
-    }
+#[derive(Clone, Copy, Debug)]
+enum Shown {
+    Records,
+    BadRecords,
+    Website,
+}
 
-    let bad = records(alloc, "acme", "", "")?;
-    let mut c = challenge(alloc, "example.com", Method::DnsChange)?;
-    for (at, of_good, of_bad, of_web) in [
-        (MADE - 1, 2, 2, 1),
-        (MADE, 0, 3, 1),
-        (1_792_592_000, 0, 3, 1),
-        (1_792_592_001, 2, 2, 1),
-        (u64::MAX, 2, 2, 1),
-    ] {
-        assert_eq!(rt; rule(alloc, &c, &dns, at)?, of_good, "{at}");
-        assert_eq!(rt; rule(alloc, &c, &bad, at)?, of_bad, "{at}");
-        assert_eq!(rt; rule(alloc, &c, &web, at)?, of_web, "{at}");
+fn shown(alloc: Global, what: Shown) -> Result<Seen, Fail> {
+    match what {
+        Shown::Records => records(alloc, "", TEXT, ""),
+        Shown::BadRecords => records(alloc, "acme", "", ""),
+        Shown::Website => website(alloc, FILE, Hops::new(alloc), 200, TEXT),
     }
-    c.made = Moment(u64::MAX);
-    assert_eq!(rt; rule(alloc, &c, &dns, u64::MAX)?, 0);
-    Ok(())
+}
+
+fn rule_of_time(
+    alloc: Global,
+    method: Method,
+    what: Shown,
+    made: u64,
+    at: u64,
+) -> Result<u8, Fail> {
+    let mut c = challenge(alloc, "example.com", method)?;
+    c.made = Moment(made);
+    rule(alloc, &c, &shown(alloc, what)?, at)
 }
 
 #[test]
-fn what_is_no_text(rt: HostRuntime) -> Result<(), Fail> {
-    let alloc = rt.alloc();
-    let c = challenge(alloc, "example.com", Method::WebChange)?;
-    for (byte, first, later) in [(b'b', 0, 0), (0xFF, 5, 8)] {
-        let mut url = FILE.as_bytes().to_vec(alloc)?;
-        url.push(byte)?;
-        let mut hops = Hops::new(alloc);
-        hops.push(Hop {
-            status: 301,
-            location: Bytes::from_slice(alloc, &url)?,
-        })?;
-        assert_eq!(rt;
-            rule(alloc, &c, &website(alloc, FILE, hops, 200, TEXT)?, MADE)?,
-            later
-        );
-        let seen = Seen::Web(WebSeen {
-            url: Bytes::from_vec(url),
-            hops: Hops::new(alloc),
-            status: 200,
-            body: bytes(alloc, TEXT)?,
-        });
-        assert_eq!(rt; rule(alloc, &c, &seen, MADE)?, first);
+fn kinds_and_times(rt: HostRuntime) -> Result<(), Fail> {
+    let rows = [
+        (Method::DnsChange, Shown::Records, MADE, MADE, 0),
+        (Method::DnsChange, Shown::Website, MADE, MADE, 1),
+        (Method::WebChange, Shown::Records, MADE, MADE, 1),
+        (Method::WebChange, Shown::Website, MADE, MADE, 0),
+        (Method::AcmeHttp, Shown::Records, MADE, MADE, 1),
+        (Method::AcmeHttp, Shown::Website, MADE, MADE, 5),
+        (Method::DnsChange, Shown::BadRecords, MADE, MADE, 3),
+        (Method::WebChange, Shown::BadRecords, MADE, MADE, 1),
+        (Method::DnsChange, Shown::Records, MADE, MADE - 1, 2),
+        (Method::DnsChange, Shown::Website, MADE, MADE - 1, 1),
+        (Method::DnsChange, Shown::BadRecords, MADE, MADE - 1, 2),
+        (Method::DnsChange, Shown::Records, MADE, 1_792_592_000, 0),
+        (Method::DnsChange, Shown::Records, MADE, 1_792_592_001, 2),
+        (Method::WebChange, Shown::Website, MADE, 1_792_592_000, 0),
+        (Method::WebChange, Shown::Website, MADE, 1_792_592_001, 2),
+        (Method::WebChange, Shown::Records, MADE, 1_792_592_001, 1),
+        (Method::DnsChange, Shown::Records, MADE, u64::MAX, 2),
+        (Method::DnsChange, Shown::Records, u64::MAX, u64::MAX, 0),
+        (Method::DnsChange, Shown::Records, 0, 0, 0),
+    ];
+    for (method, what, made, at, want) in rows {
+        let found = rule_of_time(rt.alloc(), method, what, made, at)?;
+        assert_eq!(rt; found, want, "{method:?} {what:?} {made} {at}");
     }
     Ok(())
+}
+
+fn file_and(alloc: Global, byte: u8) -> Result<Bytes, Fail> {
+    let mut url = bytes(alloc, FILE)?;
+    url.push(byte)?;
+    Ok(url)
+}
+
+fn rule_of_byte(alloc: Global, byte: u8) -> Result<u8, Fail> {
+    let c = challenge(alloc, "example.com", Method::WebChange)?;
+    let seen = Seen::Web(WebSeen {
+        url: file_and(alloc, byte)?,
+        hops: Hops::new(alloc),
+        status: 200,
+        body: bytes(alloc, TEXT)?,
+    });
+    rule(alloc, &c, &seen, MADE)
+}
+
+fn rule_of_location(alloc: Global, byte: u8) -> Result<u8, Fail> {
+    let c = challenge(alloc, "example.com", Method::WebChange)?;
+    let mut hops = Hops::new(alloc);
+    hops.push(Hop {
+        status: 301,
+        location: file_and(alloc, byte)?,
+    })?;
+    rule(alloc, &c, &website(alloc, FILE, hops, 200, TEXT)?, MADE)
+}
+
+#[test]
+fn bytes_that_are_no_text(rt: HostRuntime) -> Result<(), Fail> {
+    for (byte, first, later) in [(b'b', 0, 0), (0xFF, 5, 8)] {
+        assert_eq!(rt; rule_of_byte(rt.alloc(), byte)?, first, "{byte}");
+        assert_eq!(rt; rule_of_location(rt.alloc(), byte)?, later, "{byte}");
+    }
+    Ok(())
+}
+
+/// The text behind two bytes that stand already.
+fn text_of(alloc: Global, method: Method) -> Result<Vec<u8>, Fail> {
+    let mut out = b"> ".to_vec(alloc)?;
+    value_text(&challenge(alloc, "example.com", method)?, &mut out)?;
+    Ok(out)
 }
 
 #[test]
@@ -703,25 +743,34 @@ fn texts_of_values(rt: HostRuntime) -> Result<(), Fail> {
         (Method::WebChange, "> fbff2233445566778899aabbccddeeff"),
         (Method::AcmeHttp, "> -_8iM0RVZneImaq7zN3u_w"),
     ] {
-        let mut out = b"> ".to_vec(rt.alloc())?;
-        value_text(&challenge(rt.alloc(), "example.com", method)?, &mut out)?;
-        assert_eq!(rt; out.as_slice(), want.as_bytes());
+        assert_eq!(rt; text_of(rt.alloc(), method)?.as_slice(), want.as_bytes());
     }
     Ok(())
 }
 
-#[test]
-fn an_account_without_a_thumbprint(rt: HostRuntime) -> Result<(), Fail> {
-    let alloc = rt.alloc();
+fn rule_without_thumbprint(alloc: Global, body: &str) -> Result<u8, Fail> {
     let mut c = challenge(alloc, "192.0.3.7", Method::AcmeHttp)?;
     c.thumb = Bytes::new(alloc);
     let url = "http://192.0.3.7/.well-known/acme-challenge/-_8iM0RVZneImaq7zN3u_w";
+    rule(
+        alloc,
+        &c,
+        &website(alloc, url, Hops::new(alloc), 200, body)?,
+        MADE,
+    )
+}
+
+#[test]
+fn an_account_without_a_thumbprint(rt: HostRuntime) -> Result<(), Fail> {
     for (body, want) in [
         ("-_8iM0RVZneImaq7zN3u_w.\n", 0),
         ("-_8iM0RVZneImaq7zN3u_w", 12),
     ] {
-        let seen = website(alloc, url, Hops::new(alloc), 200, body)?;
-        assert_eq!(rt; rule(alloc, &c, &seen, MADE)?, want, "{body:?}");
+        assert_eq!(rt;
+            rule_without_thumbprint(rt.alloc(), body)?,
+            want,
+            "{body:?}"
+        );
     }
     Ok(())
 }

@@ -16,7 +16,7 @@ fn text_of(alloc: Global, method: Method, value: &Sixteen) -> Result<String, NoM
     }
 }
 
-/// Appends the one text of a challenge's random value: 32 hexadecimal digits in lower case, for ACME 22 characters of base64url.
+/// Appends the one text of a challenge's random value: 32 hexadecimal digits, or 22 characters of base64url for ACME.
 pub fn value_text(c: &Challenge, out: &mut Vec<u8>) -> Result<(), NoMemory>
     ensures ok { OnOk result (out.new.items ≡ out.old.items ++ spec.value_text c.now) }
     ensures err { OnErr result (out.new.items ≡ out.old.items) }

@@ -1,11 +1,11 @@
 //! Files of websites.
 
-ghost use Rattle.std.specs.Prelude.{◌≡◌, ℕ, not, [], ◌∷◌, ◌++◌, IfOk};
+ghost use Rattle.std.specs.Prelude.{◌≡◌, ℕ, not, ◌∷◌, ◌++◌, IfOk};
 ghost use Rattle.std.specs.Int.{is_in_range};
 ghost use Rattle.std.specs.List.{list_any};
 ghost use Rattle.gate_base.specs.declared.seen.Seen.TheVariants as kinds;
 ghost use Rattle.domain_methods.specs.Rules as rules;
-ghost use Rattle.domain_methods.specs.Rules.{M05, M06, M07, M08, M09, M10, M11, M12, verdict_by};
+ghost use Rattle.domain_methods.specs.Rules.{content_rules, verdict_by, way_rules, website_rules};
 ghost use Rattle.domain_methods.specs.Value.{value_text};
 
 use crate::address::{is_demanded, leads_to_web};
@@ -108,7 +108,7 @@ fn judge_way(
     seen: &WebSeen,
 ) -> Result<Verdict, NoMemory>
     requires value { value.now ≡ value_text c.now }
-    ensures { IfOk result (λ verdict. (at : ℕ) → verdict ≡ verdict_by (M05 ∷ M06 ∷ M07 ∷ M08 ∷ M09 ∷ M10 ∷ []) c.now (kinds.Web seen.now) at) }
+    ensures { IfOk result (λ verdict. (at : ℕ) → verdict ≡ verdict_by way_rules c.now (kinds.Web seen.now) at) }
 {
     if !is_demanded(alloc, c, value, seen.url.as_slice())? {
         return Ok(Verdict::Broken(5));
@@ -139,7 +139,7 @@ fn judge_body(
     seen: &WebSeen,
 ) -> Result<Verdict, NoMemory>
     requires value { value.now ≡ value_text c.now }
-    ensures { IfOk result (λ verdict. (at : ℕ) → verdict ≡ verdict_by (M11 ∷ M12 ∷ []) c.now (kinds.Web seen.now) at) }
+    ensures { IfOk result (λ verdict. (at : ℕ) → verdict ≡ verdict_by content_rules c.now (kinds.Web seen.now) at) }
 {
     let authorization = key_authorization(alloc, value, c.thumb.as_slice())?;
     if is_agreed_change(c.method) && trimmed(seen.body.as_slice()) != value {
@@ -159,7 +159,7 @@ pub fn judge_website(
     seen: &WebSeen,
 ) -> Result<Verdict, NoMemory>
     requires value { value.now ≡ value_text c.now }
-    ensures { IfOk result (λ verdict. (at : ℕ) → verdict ≡ verdict_by (M05 ∷ M06 ∷ M07 ∷ M08 ∷ M09 ∷ M10 ∷ M11 ∷ M12 ∷ []) c.now (kinds.Web seen.now) at) }
+    ensures { IfOk result (λ verdict. (at : ℕ) → verdict ≡ verdict_by website_rules c.now (kinds.Web seen.now) at) }
 {
     match judge_way(alloc, c, value, seen)? {
         Verdict::Good => judge_body(alloc, c, value, seen),
