@@ -643,7 +643,7 @@ enum Shown {
     Website,
 }
 
-fn shown(alloc: Global, what: Shown) -> Result<Seen, Fail> {
+fn seen_of(alloc: Global, what: Shown) -> Result<Seen, Fail> {
     match what {
         Shown::Records => records(alloc, "", TEXT, ""),
         Shown::BadRecords => records(alloc, "acme", "", ""),
@@ -660,7 +660,7 @@ fn rule_of_time(
 ) -> Result<u8, Fail> {
     let mut c = challenge(alloc, "example.com", method)?;
     c.made = Moment(made);
-    rule(alloc, &c, &shown(alloc, what)?, at)
+    rule(alloc, &c, &seen_of(alloc, what)?, at)
 }
 
 #[test]
