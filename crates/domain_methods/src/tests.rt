@@ -449,55 +449,55 @@ fn right_rows(alloc: Global, case: Case, table: &str) -> Result<u64, Fail> {
 
 #[test]
 fn kinds_and_times(rt: HostRuntime) -> Result<(), Fail> {
-    assert_eq!(rt; right_rows(rt.alloc(), Case::Time, TIMES)?, 19);
+    assert!(rt; right_rows(rt.alloc(), Case::Time, TIMES)? == 19);
     Ok(())
 }
 
 #[test]
 fn records_of_dns(rt: HostRuntime) -> Result<(), Fail> {
-    assert_eq!(rt; right_rows(rt.alloc(), Case::Records, RECORDS)?, 26);
+    assert!(rt; right_rows(rt.alloc(), Case::Records, RECORDS)? == 26);
     Ok(())
 }
 
 #[test]
 fn first_addresses(rt: HostRuntime) -> Result<(), Fail> {
-    assert_eq!(rt; right_rows(rt.alloc(), Case::Address, ADDRESSES)?, 43);
+    assert!(rt; right_rows(rt.alloc(), Case::Address, ADDRESSES)? == 43);
     Ok(())
 }
 
 #[test]
 fn redirects(rt: HostRuntime) -> Result<(), Fail> {
-    assert_eq!(rt; right_rows(rt.alloc(), Case::Redirect, REDIRECTS)?, 19);
+    assert!(rt; right_rows(rt.alloc(), Case::Redirect, REDIRECTS)? == 19);
     Ok(())
 }
 
 #[test]
 fn files_of_websites(rt: HostRuntime) -> Result<(), Fail> {
-    assert_eq!(rt; right_rows(rt.alloc(), Case::File, FILES)?, 18);
+    assert!(rt; right_rows(rt.alloc(), Case::File, FILES)? == 18);
     Ok(())
 }
 
 #[test]
 fn files_of_acme(rt: HostRuntime) -> Result<(), Fail> {
-    assert_eq!(rt; right_rows(rt.alloc(), Case::Token, TOKENS)?, 26);
+    assert!(rt; right_rows(rt.alloc(), Case::Token, TOKENS)? == 26);
     Ok(())
 }
 
 #[test]
 fn an_account_without_a_thumbprint(rt: HostRuntime) -> Result<(), Fail> {
-    assert_eq!(rt; right_rows(rt.alloc(), Case::BareToken, BARE_TOKENS)?, 4);
+    assert!(rt; right_rows(rt.alloc(), Case::BareToken, BARE_TOKENS)? == 4);
     Ok(())
 }
 
 #[test]
 fn texts_of_values(rt: HostRuntime) -> Result<(), Fail> {
-    assert_eq!(rt; right_rows(rt.alloc(), Case::Text, TEXTS)?, 4);
+    assert!(rt; right_rows(rt.alloc(), Case::Text, TEXTS)? == 4);
     Ok(())
 }
 
 #[test]
 fn targets_that_are_covered(rt: HostRuntime) -> Result<(), Fail> {
-    assert_eq!(rt; right_rows(rt.alloc(), Case::Cover, COVERS)?, 28);
+    assert!(rt; right_rows(rt.alloc(), Case::Cover, COVERS)? == 28);
     Ok(())
 }
 
@@ -523,7 +523,7 @@ fn rule_of_location(alloc: Global, byte: u8) -> Result<u8, Fail> {
 
 #[test]
 fn bytes_that_are_no_text(rt: HostRuntime) -> Result<(), Fail> {
-    assert_eq!(rt; rule_of_byte(rt.alloc(), 0xFF)?, 5);
-    assert_eq!(rt; rule_of_location(rt.alloc(), 0xFF)?, 8);
+    assert!(rt; rule_of_byte(rt.alloc(), 0xFF)? == 5);
+    assert!(rt; rule_of_location(rt.alloc(), 0xFF)? == 8);
     Ok(())
 }
