@@ -1,0 +1,4 @@
+pub mod Address
+pub mod Cover
+pub mod Rules
+pub mod Value
