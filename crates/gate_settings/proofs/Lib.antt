@@ -1,0 +1,5 @@
+mod Counts
+mod Domains
+mod IssuerNames
+mod Kept
+mod Toml

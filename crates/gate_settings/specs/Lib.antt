@@ -1,0 +1,6 @@
+pub mod Words
+pub mod Reading
+pub mod Callers
+pub mod Members
+pub mod Rules
+pub mod Meaning
