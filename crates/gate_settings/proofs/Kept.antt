@@ -1,12 +1,13 @@
 -- Rules that what a file says keeps are rules that the file keeps.
-use Rattle.std.proofs.Common.{◌≡◌, ◌<◌, ◌≤◌, ℕ, List, length, Option, Some, IsSomeAnd, refl, subst, sym, arith}
+use Rattle.std.proofs.Common.{◌≡◌, ℕ, List, [], ◌∷◌, Some, IsSomeAnd, subst, sym}
+use Rattle.std.specs.List.{AllByRecursion}
 use Rattle.gate_settings.specs.declared.document.Document.{Document}
 use Rattle.gate_settings.specs.declared.rule.Rule.{Rule}
 use Rattle.gate_settings.specs.declared.rule.Rule.TheVariants.{S01, S02, S03, S04, S05, S06, S07, S08, S09, S10, S11, S12}
 use Rattle.gate_settings.specs.declared.rule.Broken.{Broken}
 use Rattle.gate_settings.specs.declared.rule.Broken.TheVariants as broken
 use Rattle.gate_settings.specs.Reading.{document_of}
-use Rattle.gate_settings.specs.Rules.{Breaks, DocumentBreaks, IsKept, NoneBefore, NoneBroken, TellsLeast}
+use Rattle.gate_settings.specs.Rules.{Breaks, before, DocumentBreaks, IsKept, NoneBefore, NoneBroken, TellsLeast}
 
 -- what a document breaks, its file breaks
 module _ (bytes : List ℕ) (d : Document) (says : document_of bytes ≡ Some d) (first : NoneBefore (Breaks bytes) S04) where
@@ -17,9 +18,9 @@ module _ (bytes : List ℕ) (d : Document) (says : document_of bytes ≡ Some d)
   in_file P h = subst (λ o. IsSomeAnd o P) (sym says) h
 
   kept : (rule : Rule) → IsKept (DocumentBreaks d) rule → IsKept (Breaks bytes) rule
-  kept S01 h = first.0.0.1
-  kept S02 h = first.0.1
-  kept S03 h = first.1
+  kept S01 h = first.1.1.0
+  kept S02 h = first.1.0
+  kept S03 h = first.0
   kept S04 h = λ item. of_document (λ d. DocumentBreaks d S04 item) (h item)
   kept S05 h = λ item. of_document (λ d. DocumentBreaks d S05 item) (h item)
   kept S06 h = λ item. of_document (λ d. DocumentBreaks d S06 item) (h item)
@@ -30,19 +31,9 @@ module _ (bytes : List ℕ) (d : Document) (says : document_of bytes ≡ Some d)
   kept S11 h = λ item. of_document (λ d. DocumentBreaks d S11 item) (h item)
   kept S12 h = λ item. of_document (λ d. DocumentBreaks d S12 item) (h item)
 
-  none_before : (rule : Rule) → NoneBefore (DocumentBreaks d) rule → NoneBefore (Breaks bytes) rule
-  none_before S01 h = tt
-  none_before S02 h = (none_before S01 h.0, kept S01 h.1)
-  none_before S03 h = (none_before S02 h.0, kept S02 h.1)
-  none_before S04 h = (none_before S03 h.0, kept S03 h.1)
-  none_before S05 h = (none_before S04 h.0, kept S04 h.1)
-  none_before S06 h = (none_before S05 h.0, kept S05 h.1)
-  none_before S07 h = (none_before S06 h.0, kept S06 h.1)
-  none_before S08 h = (none_before S07 h.0, kept S07 h.1)
-  none_before S09 h = (none_before S08 h.0, kept S08 h.1)
-  none_before S10 h = (none_before S09 h.0, kept S09 h.1)
-  none_before S11 h = (none_before S10 h.0, kept S10 h.1)
-  none_before S12 h = (none_before S11 h.0, kept S11 h.1)
+  all_kept : (rules : List Rule) → AllByRecursion (IsKept (DocumentBreaks d)) rules → AllByRecursion (IsKept (Breaks bytes)) rules
+  all_kept [] h = tt
+  all_kept (rule ∷ rules) h = (kept rule h.0, all_kept rules h.1)
 
   breaks : (rule : Rule) (item : ℕ) → DocumentBreaks d rule item → Breaks bytes rule item
   breaks S01 item h = absurd h
@@ -59,8 +50,8 @@ module _ (bytes : List ℕ) (d : Document) (says : document_of bytes ≡ Some d)
   breaks S12 item h = in_file (λ d. DocumentBreaks d S12 item) h
 
   pub none_broken : NoneBroken (DocumentBreaks d) → NoneBroken (Breaks bytes)
-  none_broken h = (none_before S12 h.0, kept S12 h.1)
+  none_broken h = all_kept _ h
 
   pub tells_least : (fault : Broken) → TellsLeast (DocumentBreaks d) fault → TellsLeast (Breaks bytes) fault
-  tells_least (broken.Rule rule item) h = (breaks rule item h.0, none_before rule h.1)
+  tells_least (broken.Rule rule item) h = (breaks rule item h.0, all_kept (before rule) h.1)
   tells_least broken.NoMemory h = tt

@@ -1,11 +1,10 @@
 -- The rules that a settings file keeps, and what breaks each. A rule whose part of the file isn't there is not broken.
-use Rattle.std.specs.Prelude.{◌≡◌, ◌≢◌, ◌⊎◌, ℕ, ◌+◌, ◌<◌, ◌≤◌, ◌^◌, Bool, false, ◌&&◌, List, length, codes, nat_le, nat_eq, Option, Some, None, IsSome, IsSomeAnd, Result, Ok, Err, slice_get}
-use Rattle.std.specs.List.{list_all, starts_with}
+use Rattle.std.specs.Prelude.{◌≡◌, ◌≢◌, ◌⊎◌, ℕ, ◌+◌, ◌<◌, ◌≤◌, Bool, false, ◌&&◌, List, [], ◌∷◌, length, codes, nat_le, nat_eq, Option, Some, None, IsSomeAnd, Result, Ok, Err, slice_get}
+use Rattle.std.specs.List.{AllByRecursion, list_all, starts_with}
 use Rattle.hex.specs.Hex.{decode_of}
 use Rattle.hex.specs.declared.error.FromHexError.{FromHexError}
 use Rattle.der_text.specs.Tree.{Nodes, constructed, spelling, IsInForm}
 use Rattle.names_core.specs.Suffix.{rules_read}
-use Rattle.names_core.specs.declared.rule.Rule.{Rule as SuffixRule}
 use Rattle.names_core.specs.declared.rule.SuffixFault.{SuffixFault}
 use Rattle.names_core.specs.declared.rule.SuffixFault.TheVariants.{Line, TooMany, NoMemory}
 use Rattle.perspectives.specs.Panel.{IsFirstFault}
@@ -166,36 +165,40 @@ Breaks bytes S11 item = IsSomeAnd (document_of bytes) (λ d. DocumentBreaks d S1
 Breaks bytes S12 item = IsSomeAnd (document_of bytes) (λ d. DocumentBreaks d S12 item)
 
 abbrev pub IsKept : (Rule → ℕ → Type 0) → Rule → Type 0
-IsKept Broken rule = (item : ℕ) → ¬ (Broken rule item)
+IsKept Breaking rule = (item : ℕ) → ¬ (Breaking rule item)
+
+-- the rules before a rule, the last of them first
+abbrev pub before : Rule → List Rule
+before S01 = []
+before S02 = S01 ∷ []
+before S03 = S02 ∷ S01 ∷ []
+before S04 = S03 ∷ S02 ∷ S01 ∷ []
+before S05 = S04 ∷ S03 ∷ S02 ∷ S01 ∷ []
+before S06 = S05 ∷ S04 ∷ S03 ∷ S02 ∷ S01 ∷ []
+before S07 = S06 ∷ S05 ∷ S04 ∷ S03 ∷ S02 ∷ S01 ∷ []
+before S08 = S07 ∷ S06 ∷ S05 ∷ S04 ∷ S03 ∷ S02 ∷ S01 ∷ []
+before S09 = S08 ∷ S07 ∷ S06 ∷ S05 ∷ S04 ∷ S03 ∷ S02 ∷ S01 ∷ []
+before S10 = S09 ∷ S08 ∷ S07 ∷ S06 ∷ S05 ∷ S04 ∷ S03 ∷ S02 ∷ S01 ∷ []
+before S11 = S10 ∷ S09 ∷ S08 ∷ S07 ∷ S06 ∷ S05 ∷ S04 ∷ S03 ∷ S02 ∷ S01 ∷ []
+before S12 = S11 ∷ S10 ∷ S09 ∷ S08 ∷ S07 ∷ S06 ∷ S05 ∷ S04 ∷ S03 ∷ S02 ∷ S01 ∷ []
 
 -- no rule before this one is broken
 abbrev pub NoneBefore : (Rule → ℕ → Type 0) → Rule → Type 0
-NoneBefore Broken S01 = Unit {0}
-NoneBefore Broken S02 = NoneBefore Broken S01 × IsKept Broken S01
-NoneBefore Broken S03 = NoneBefore Broken S02 × IsKept Broken S02
-NoneBefore Broken S04 = NoneBefore Broken S03 × IsKept Broken S03
-NoneBefore Broken S05 = NoneBefore Broken S04 × IsKept Broken S04
-NoneBefore Broken S06 = NoneBefore Broken S05 × IsKept Broken S05
-NoneBefore Broken S07 = NoneBefore Broken S06 × IsKept Broken S06
-NoneBefore Broken S08 = NoneBefore Broken S07 × IsKept Broken S07
-NoneBefore Broken S09 = NoneBefore Broken S08 × IsKept Broken S08
-NoneBefore Broken S10 = NoneBefore Broken S09 × IsKept Broken S09
-NoneBefore Broken S11 = NoneBefore Broken S10 × IsKept Broken S10
-NoneBefore Broken S12 = NoneBefore Broken S11 × IsKept Broken S11
+NoneBefore Breaking rule = AllByRecursion (IsKept Breaking) (before rule)
 
 -- no rule is broken
 abbrev pub NoneBroken : (Rule → ℕ → Type 0) → Type 0
-NoneBroken Broken = NoneBefore Broken S12 × IsKept Broken S12
+NoneBroken Breaking = AllByRecursion (IsKept Breaking) (S12 ∷ before S12)
 
 -- what is told of one rule: that it is broken; want of memory is no rule
 abbrev pub TellsOf : (Rule → ℕ → Type 0) → Rule → Broken → Type 0
-TellsOf Broken rule (broken.Rule told item) = (told ≡ rule) × Broken rule item
-TellsOf Broken rule broken.NoMemory = Unit {0}
+TellsOf Breaking rule (broken.Rule told item) = (told ≡ rule) × Breaking rule item
+TellsOf Breaking rule broken.NoMemory = Unit {0}
 
 -- what is told is the least rule that is broken
 abbrev pub TellsLeast : (Rule → ℕ → Type 0) → Broken → Type 0
-TellsLeast Broken (broken.Rule rule item) = Broken rule item × NoneBefore Broken rule
-TellsLeast Broken broken.NoMemory = Unit {0}
+TellsLeast Breaking (broken.Rule rule item) = Breaking rule item × NoneBefore Breaking rule
+TellsLeast Breaking broken.NoMemory = Unit {0}
 
 -- the same, by the rule's number
 abbrev pub IsLeastFault : List ℕ → SettingsFault → Type 0

@@ -3,7 +3,7 @@ ghost use Rattle.std.specs.Prelude.{◌≡◌, OnOk, IfErr};
 ghost use Rattle.gate_settings.specs.Rules as spec;
 ghost use Rattle.gate_settings.specs.Rules.{DocumentBreaks, IsKept, TellsOf};
 
-use crate::callers::is_visible;
+use crate::callers::are_visible;
 use crate::document::Document;
 use crate::rule::{Broken, Rule};
 
@@ -13,9 +13,7 @@ const LONGEST_ADDRESS: usize = 512;
 fn is_address(text: &[u8]) -> bool
     ensures { result ≡ spec.is_address text.now }
 {
-    text.len() <= LONGEST_ADDRESS
-        && text.starts_with(b"http://")
-        && text.iter().all(|byte| is_visible(*byte))
+    text.len() <= LONGEST_ADDRESS && text.starts_with(b"http://") && are_visible(text)
 }
 
 /// Whether the addresses of a file are web addresses.

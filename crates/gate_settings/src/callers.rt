@@ -1,5 +1,6 @@
 //! Who may call.
 ghost use Rattle.std.specs.Prelude.{◌≡◌, [], unwrap_or, option_copied, IfOk, OnOk, IfErr};
+ghost use Rattle.std.specs.List.{list_all};
 ghost use Rattle.gate_settings.specs.Callers as spec;
 ghost use Rattle.gate_settings.specs.Reading.{Gives};
 ghost use Rattle.gate_settings.specs.Rules.{DocumentBreaks, GivesAt, IsKept, TellsOf};
@@ -55,16 +56,23 @@ const LONGEST_WORD: usize = 64;
 /// SHA-256 in base64url has this many characters.
 const THUMB_LEN: usize = 43;
 
-pub fn is_visible(byte: u8) -> bool
+fn is_visible(byte: u8) -> bool
     ensures { result ≡ spec.is_visible byte }
 {
     b'!' <= byte && byte <= b'~'
 }
 
+/// Printing characters of ASCII, and no space.
+pub fn are_visible(text: &[u8]) -> bool
+    ensures { result ≡ list_all spec.is_visible text.now }
+{
+    text.iter().all(|byte| is_visible(*byte))
+}
+
 fn is_word(text: &[u8]) -> bool
     ensures { result ≡ spec.is_word text.now }
 {
-    1 <= text.len() && text.len() <= LONGEST_WORD && text.iter().all(|byte| is_visible(*byte))
+    1 <= text.len() && text.len() <= LONGEST_WORD && are_visible(text)
 }
 
 fn is_base64url(byte: u8) -> bool
@@ -73,10 +81,16 @@ fn is_base64url(byte: u8) -> bool
     byte.is_ascii_alphanumeric() || byte == b'-' || byte == b'_'
 }
 
+fn are_base64url(text: &[u8]) -> bool
+    ensures { result ≡ list_all spec.is_base64url text.now }
+{
+    text.iter().all(|byte| is_base64url(*byte))
+}
+
 fn is_thumb(text: &[u8]) -> bool
     ensures { result ≡ spec.is_thumb text.now }
 {
-    text.len() == THUMB_LEN && text.iter().all(|byte| is_base64url(*byte))
+    text.len() == THUMB_LEN && are_base64url(text)
 }
 
 fn has_good_thumb(thumb: &Option<Bytes>) -> bool
