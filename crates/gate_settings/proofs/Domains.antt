@@ -1,5 +1,5 @@
 -- An issuer-domain-name is an issue value that names itself.
-use Rattle.std.proofs.Common.{◌≡◌, ◌≢◌, ℕ, List, [], ◌∷◌, ◌++◌, ◌⊎◌, inl, inr, refl, sym, ap, ◌∙◌, subst}
+use Rattle.std.proofs.Common.{◌≡◌, ◌≢◌, ℕ, List, [], ◌∷◌, ◌++◌, Some, ◌⊎◌, inl, inr, refl, sym, ap, ◌∙◌, subst}
 use Rattle.std.proofs.lemmas.List.{append-nil}
 use Rattle.std.specs.List.{AllByRecursion, join_with_byte}
 use Rattle.caa_climb.specs.IssueValue.{IsDomain, IsLabel, IsIssueValue}
@@ -26,3 +26,6 @@ itself text domain = record {
 pub named_domain : (text issuer parameters : List ℕ) → IsIssueValue text issuer parameters → issuer ≡ text → text ≢ [] → IsDomain text
 named_domain text issuer parameters value same some =
     elim value.front_is.issuer_is [ inl none ↦ absurd (some (sym same ∙ none)) | inr domain ↦ subst (λ t. IsDomain t) same domain ]
+
+pub same_issuer : (p q : List ℕ × List ℕ) → Some p ≡ Some q → p.0 ≡ q.0
+same_issuer p q e = let same : p ≡ q = cc e in ap (λ (r : List ℕ × List ℕ). r.0) same

@@ -1,11 +1,15 @@
 -- A SEQUENCE in one more SEQUENCE: the tree around it has one level more.
-use Rattle.std.proofs.Common.{◌≡◌, ◌≢◌, ℕ, zero, suc, ◌+◌, ◌<◌, ◌≤◌, ◌^◌, ◌%◌, Bool, true, false, ◌↔◌, IsTrue, List, [], ◌∷◌, ◌++◌, length, Result, Ok, Err, refl, sym, ap, ◌∙◌, subst, arith}
+use Rattle.std.proofs.Common.{◌≡◌, ◌==◌, ℕ, ◌<◌, ◌≤◌, ◌^◌, true, false, ◌↔◌, IsTrue, List, [], ◌∷◌, ◌++◌, length, Result, Ok, Err, refl, sym, ap, ◌∙◌, subst, arith}
+use Rattle.std.proofs.lemmas.Bool.{eqb-true, and_parts}
 use Rattle.std.proofs.lemmas.List.{append-nil}
 use Rattle.der_text.specs.declared.fault.DerKind.{DerKind}
+use Rattle.der_text.specs.declared.tree.Tree.{Tree}
+use Rattle.der_text.specs.View.{nodes}
 use Rattle.der_text.specs.Content.{keeps_rule}
-use Rattle.der_text.specs.Tree.{Node, Nodes, constructed, also, no_nodes, element, spelling, spellings, IsElement, IsInForm, AreInForm, IsDer}
+use Rattle.der_text.specs.Tree.{Node, primitive, Nodes, constructed, also, no_nodes, element, spelling, spellings, IsElement, IsInForm, AreInForm, IsDer}
 use Rattle.der_text.specs.Fault.{Front, front_of}
 use Rattle.der_text.proofs.Heads.{front_again}
+use Rattle.gate_settings.specs.Sequences.{is_sequence, is_one_sequence, is_sequence_of_one}
 use Rattle.gate_settings.specs.Rules.{IsIssuerName}
 
 -- a SEQUENCE of one SEQUENCE
@@ -48,17 +52,43 @@ out_of_one bytes parts short der =
     let same : bytes ≡ spelling (constructed 48 parts) ++ [] = one_content bytes _ few form.1.size der.spelled in
     record { short = short; parts = parts; spelled = same ∙ append-nil (spelling (constructed 48 parts)); form = form.2.0 }
 
+one_of_48 : (tag : ℕ) (parts : Nodes) → tag == 48 ≡ true → constructed tag parts ≡ constructed 48 parts
+one_of_48 tag parts e = ap (λ t. constructed t parts) (eqb-true tag 48 e)
+
+sequence_is : (tree : Node) → is_sequence tree ≡ true → (parts : Nodes) × (tree ≡ constructed 48 parts)
+sequence_is (primitive tag content) e = cc e
+sequence_is (constructed tag parts) e = (parts, one_of_48 tag parts e)
+
+one_is : (parts : Nodes) → is_one_sequence parts ≡ true → (inner : Nodes) × (parts ≡ also (constructed 48 inner) no_nodes)
+one_is no_nodes e = cc e
+one_is (also first no_nodes) e = let found = sequence_is first e in (found.0, ap (λ n. also n no_nodes) found.1)
+one_is (also first (also second others)) e = cc e
+
+in_one_is : (tree : Node) → is_sequence_of_one tree ≡ true → (parts : Nodes) × (tree ≡ in_one parts)
+in_one_is (primitive tag content) e = cc e
+in_one_is (constructed tag parts) e =
+    let both = and_parts _ _ e in
+    let found = one_is parts both.1 in
+    (found.0, one_of_48 tag parts both.0 ∙ ap (constructed 48) found.1)
+
 -- where the tree that is read is known, so is whether the bytes are a name
-pub name_by_tree : (bytes whole : List ℕ) (tree : Node) (good : Bool) → length bytes ≤ 1024 → whole ≡ element 48 bytes
-    → IsDer whole tree → ((other : Node) → IsDer whole other → other ≡ tree)
-    → (IsTrue good ↔ ((parts : Nodes) × (tree ≡ in_one parts))) → IsTrue good ↔ IsIssuerName bytes
-name_by_tree bytes whole tree good short is der only judged = (
-  λ h. let found = judged.0 h in
+pub name_by_tree : (bytes whole : List ℕ) (tree : Node) → length bytes ≤ 1024 → whole ≡ element 48 bytes → IsDer whole tree
+    → ((other : Node) → IsDer whole other → other ≡ tree) → IsTrue (is_sequence_of_one tree) ↔ IsIssuerName bytes
+name_by_tree bytes whole tree short is der only = (
+  λ h. let found = in_one_is tree h in
       out_of_one bytes found.0 short (subst (λ t. IsDer (element 48 bytes) t) found.1 (subst (λ b. IsDer b tree) is der)),
-  λ name. judged.1 (name.parts, sym (only (in_one name.parts) (subst (λ b. IsDer b (in_one name.parts)) (sym is) (in_one_more bytes name.parts short name.spelled name.form)))),
+  λ name.
+      let same = only (in_one name.parts) (subst (λ b. IsDer b (in_one name.parts)) (sym is) (in_one_more bytes name.parts short name.spelled name.form)) in
+      ap is_sequence_of_one (sym same),
 )
 
 -- where none is, they are none
 pub no_name : (bytes whole : List ℕ) → length bytes ≤ 1024 → whole ≡ element 48 bytes → ((tree : Node) → ¬ (IsDer whole tree)) → ¬ (IsIssuerName bytes)
 no_name bytes whole short is none name =
     none (in_one name.parts) (subst (λ b. IsDer b (in_one name.parts)) (sym is) (in_one_more bytes name.parts short name.spelled name.form))
+
+-- several parts are not one
+pub several : (trees : List Tree) → 2 ≤ length trees → false ≡ is_one_sequence (nodes trees)
+several [] h = absurd (omega arith)
+several (tree ∷ []) h = absurd (omega arith)
+several (tree ∷ other ∷ trees) h = refl

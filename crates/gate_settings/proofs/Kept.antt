@@ -50,7 +50,7 @@ module _ (bytes : List ℕ) (d : Document) (says : document_of bytes ≡ Some d)
   breaks S12 item h = in_file (λ d. DocumentBreaks d S12 item) h
 
   pub none_broken : NoneBroken (DocumentBreaks d) → NoneBroken (Breaks bytes)
-  none_broken h = all_kept _ h
+  none_broken h = all_kept (S12 ∷ before S12) h
 
   pub tells_least : (fault : Broken) → TellsLeast (DocumentBreaks d) fault → TellsLeast (Breaks bytes) fault
   tells_least (broken.Rule rule item) h = (breaks rule item h.0, all_kept (before rule) h.1)

@@ -2,4 +2,5 @@ mod Counts
 mod Domains
 mod IssuerNames
 mod Kept
+mod Panels
 mod Toml

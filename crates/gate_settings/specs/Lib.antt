@@ -2,5 +2,6 @@ pub mod Words
 pub mod Reading
 pub mod Callers
 pub mod Members
+pub mod Sequences
 pub mod Rules
 pub mod Meaning

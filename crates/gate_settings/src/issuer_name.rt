@@ -1,7 +1,8 @@
 //! The issuer's name.
 ghost use Rattle.std.specs.Prelude.{◌≡◌, ◌≤◌, ◌∷◌, ◌↔◌, length, IsTrue, IfOk};
-ghost use Rattle.der_text.specs.Tree.{Nodes, also, constructed, element, length_octets, no_nodes};
-ghost use Rattle.der_text.specs.View.{node};
+ghost use Rattle.der_text.specs.Tree.{element, length_octets};
+ghost use Rattle.der_text.specs.View.{node, nodes};
+ghost use Rattle.gate_settings.specs.Sequences as spec;
 ghost use Rattle.gate_settings.specs.Rules.{IsIssuerName};
 
 use der_text::{ReadFault, Tree, read_tree};
@@ -39,16 +40,32 @@ fn in_sequence(alloc: Global, content: &[u8]) -> Result<Vec<u8>, NoMemory>
     Ok(whole)
 }
 
-/// Whether a tree is a SEQUENCE of one SEQUENCE.
-fn is_sequence_in_one(tree: &Tree<'_>) -> bool
-    ensures { IsTrue result ↔ ((parts : Nodes) × (node tree.now ≡ constructed 48 (also (constructed 48 parts) no_nodes))) }
+fn is_sequence(tree: &Tree<'_>) -> bool
+    ensures { result ≡ spec.is_sequence (node tree.now) }
 {
     match tree {
-        Tree::Cons {
-            tag: SEQUENCE,
-            parts,
-        } => matches!(parts.as_slice(), [Tree::Cons { tag: SEQUENCE, .. }]),
-        _ => false,
+        Tree::Cons { tag, .. } => *tag == SEQUENCE,
+        Tree::Prim { .. } => false,
+    }
+}
+
+fn is_one_sequence(parts: &[Tree<'_>]) -> bool
+    ensures { result ≡ spec.is_one_sequence (nodes parts.now) }
+{
+    match parts {
+        [] => false,
+        [part] => is_sequence(part),
+        [_, _, ..] => false,
+    }
+}
+
+/// Whether a tree is a SEQUENCE of one SEQUENCE.
+fn is_sequence_of_one(tree: &Tree<'_>) -> bool
+    ensures { result ≡ spec.is_sequence_of_one (node tree.now) }
+{
+    match tree {
+        Tree::Cons { tag, parts } => *tag == SEQUENCE && is_one_sequence(parts.as_slice()),
+        Tree::Prim { .. } => false,
     }
 }
 
@@ -65,5 +82,5 @@ pub fn is_issuer_name(alloc: Global, bytes: &[u8]) -> Result<bool, NoMemory>
         Err(ReadFault::Der(_)) => return Ok(false),
         Err(ReadFault::NoMemory) => return Err(NoMemory),
     };
-    Ok(is_sequence_in_one(&tree))
+    Ok(is_sequence_of_one(&tree))
 }

@@ -6,7 +6,7 @@ ghost use Rattle.gate_settings.specs.Rules.{DocumentBreaks, IsFirstPlace, IsKept
 use crate::document::Document;
 use crate::rule::{Broken, Rule};
 use caa_climb::{one_reading, read_issue_value};
-use gate_base::Bytes;
+use gate_base::{Bytes, are_same};
 
 /// An authority has at most this many names.
 const MOST_ISSUERS: usize = 16;
@@ -17,7 +17,7 @@ fn is_domain(text: &[u8]) -> bool
 {
     one_reading();
     match read_issue_value(text) {
-        Some(value) => !text.is_empty() && value.issuer == text,
+        Some(value) => !text.is_empty() && are_same(value.issuer, text),
         None => false,
     }
 }
