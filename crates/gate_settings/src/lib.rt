@@ -22,3 +22,6 @@ pub use callers::Callers;
 pub use fault::SettingsFault;
 pub use row::CallerRow;
 pub use settings::{Settings, read_settings};
+
+#[cfg(test)]
+mod tests;
