@@ -77,8 +77,8 @@ region = "arin"
 at = [5000, 0, 0]
 "#;
 
-/// Members that are missing, strange or of the wrong kind.
-pub const MEMBERS: [Row; 12] = [
+pub const CHANGES: [Row; 94] = [
+    // members that are missing, strange or of the wrong kind
     ("issuers = [\"ca.example\"]\n", "", 3, 0),
     ("issuers", "issuer", 3, 0),
     ("[\"ca.example\"]", "\"ca.example\"", 3, 0),
@@ -96,10 +96,7 @@ pub const MEMBERS: [Row; 12] = [
     ("\"com\\nexample\\n\"", "[\"com\"]", 3, 0),
     ("[suffixes]\n", "[suffixes]\nmore = true\n", 3, 0),
     ("[suffixes]\n", "[more]\n[suffixes]\n", 3, 0),
-];
-
-/// The same in rows.
-pub const ROWS: [Row; 13] = [
+    // the same in rows
     ("id = \"acme\"\n", "", 3, 0),
     ("token = \"t5\"\n", "", 3, 0),
     ("token = \"t5\"\n", "token = \"t5\"\nmore = 1\n", 3, 0),
@@ -118,10 +115,7 @@ pub const ROWS: [Row; 13] = [
     ("at = [0, 0, 0]", "at = [0, 0]", 3, 0),
     ("at = [5000, 0, 0]", "at = [5000, 0, 0, 0]", 3, 0),
     ("at = [5000, 0, 0]", "at = [5000, 0.5, 0]", 3, 0),
-];
-
-/// Texts that are no TOML.
-pub const TEXTS: [Row; 5] = [
+    // texts that are no TOML
     ("[ca]", "[ca", 2, 0),
     (
         "crl = \"http://c.example/1.crl\"\n",
@@ -132,10 +126,7 @@ pub const TEXTS: [Row; 5] = [
     ("token = \"t5\"\n", "token = \"t5\"\ntoken = \"t5\"\n", 2, 0),
     ("at = [0, 0, 0]", "at = [9223372036854775808, 0, 0]", 2, 0),
     ("\"com\\nexample\\n\"", "\"com\\qexample\\n\"", 2, 0),
-];
-
-/// What the authority is called and signs with.
-pub const AUTHORITY: [Row; 19] = [
+    // what the authority is called and signs with
     ("\"3012", "\"3g12", 4, 0),
     ("4341\"", "434\"", 4, 0),
     (
@@ -180,18 +171,12 @@ pub const AUTHORITY: [Row; 19] = [
     ("http://c.example/1.crl", "http://c.example/1 crl", 8, 0),
     ("http://c.example/1.cer", "ldap://c.example/1.cer", 8, 0),
     ("http://c.example/1.cer", "http://c.example/é.cer", 8, 0),
-];
-
-/// Lines that are no suffix rules.
-pub const SUFFIXES: [Row; 4] = [
+    // lines that are no suffix rules
     ("com\\n", "com.\\n", 9, 1),
     ("example\\n", "example\\n// and\\n\\nb_d\\n", 9, 5),
     ("com\\nexample\\n", "", 0, 0),
     ("com\\nexample\\n", "*.com\\n!www.com \\n", 0, 0),
-];
-
-/// Callers that offend.
-pub const CALLERS: [Row; 15] = [
+    // callers that offend
     ("id = \"acme\"", "id = \"\"", 10, 1),
     ("id = \"op\"", "id = \"o p\"", 10, 2),
     ("token = \"op-token\"", "token = \"\"", 10, 2),
@@ -222,10 +207,7 @@ pub const CALLERS: [Row; 15] = [
         10,
         1,
     ),
-];
-
-/// Regions that are unknown, and perspectives that are no panel.
-pub const PANEL: [Row; 12] = [
+    // regions that are unknown, and perspectives that are no panel
     (
         "region = \"arin\"\nat = [0",
         "region = \"mars\"\nat = [0",
@@ -268,10 +250,7 @@ pub const PANEL: [Row; 12] = [
         0,
         0,
     ),
-];
-
-/// Names of the authority.
-pub const ISSUERS: [Row; 8] = [
+    // names of the authority
     ("[\"ca.example\"]", "[]", 12, 0),
     ("[\"ca.example\"]", "[\"\"]", 12, 1),
     (
@@ -295,10 +274,7 @@ pub const ISSUERS: [Row; 8] = [
         12,
         0,
     ),
-];
-
-/// Two rules are broken at once.
-pub const TWO_BROKEN: [Row; 6] = [
+    // two rules broken at once
     (
         "algorithm = \"ecdsa-sha256\"\nkey_id = \"22",
         "algorithm = \"ecdsa\"\nkey_id = \"",
