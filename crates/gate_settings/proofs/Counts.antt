@@ -1,7 +1,7 @@
 -- How many members a table has.
-use Rattle.std.proofs.Common.{◌≡◌, ℕ, ◌+◌, List, [], ◌∷◌, length, map, BTreeMap, String, Global, refl, ap, ◌∙◌, rules, arith}
+use Rattle.std.proofs.Common.{◌≡◌, List, [], ◌∷◌, length, map, BTreeMap, String, Global, refl, ap, ◌∙◌, arith}
 use Rattle.toml.specs.Data.{Data}
-use Rattle.toml.specs.View.{view, members_of, table_view}
+use Rattle.toml.specs.View.{view, members_of}
 use Rattle.toml.proofs.Views.{view-Table}
 use Rattle.toml.specs.declared.value.Value.{Value, Table}
 use Rattle.gate_settings.specs.Reading.{count_of, member_count}

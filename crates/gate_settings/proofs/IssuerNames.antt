@@ -6,7 +6,7 @@ use Rattle.der_text.specs.declared.fault.DerKind.{DerKind}
 use Rattle.der_text.specs.declared.tree.Tree.{Tree}
 use Rattle.der_text.specs.View.{nodes}
 use Rattle.der_text.specs.Content.{keeps_rule}
-use Rattle.der_text.specs.Tree.{Node, primitive, Nodes, constructed, also, no_nodes, element, spelling, spellings, IsElement, IsInForm, AreInForm, IsDer}
+use Rattle.der_text.specs.Tree.{Node, primitive, Nodes, constructed, also, no_nodes, element, spelling, IsElement, IsInForm, AreInForm, IsDer}
 use Rattle.der_text.specs.Fault.{Front, front_of}
 use Rattle.der_text.proofs.Heads.{front_again}
 use Rattle.gate_settings.specs.Sequences.{is_sequence, is_one_sequence, is_sequence_of_one}

@@ -1,5 +1,5 @@
 -- A panel has no fault.
-use Rattle.std.proofs.Common.{◌≡◌, ℕ, ◌<◌, ◌≤◌, ℤ, pos, false, List, [], length, Result, Ok, sym, ◌∙◌, subst, arith}
+use Rattle.std.proofs.Common.{◌≡◌, ℕ, pos, false, List, [], Result, Ok, sym, ◌∙◌, subst, arith}
 use Rattle.std.proofs.lemmas.List.Quantifiers.{position-Some}
 use Rattle.std.specs.List.{AllPass, position}
 use Rattle.std.specs.Prelude.{not, Some}

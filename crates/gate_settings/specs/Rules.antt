@@ -14,7 +14,6 @@ use Rattle.perspectives.specs.declared.fault.PanelFault.TheVariants as panel_fau
 use Rattle.caa_climb.specs.IssueValue.{IsDomain}
 use Rattle.gate_settings.specs.declared.document.Document.{Document}
 use Rattle.gate_settings.specs.declared.document.CaTable.{CaTable}
-use Rattle.gate_settings.specs.declared.document.PerspectiveTable.{PerspectiveTable}
 use Rattle.gate_settings.specs.declared.rule.Rule.{Rule}
 use Rattle.gate_settings.specs.declared.rule.Rule.TheVariants.{S01, S02, S03, S04, S05, S06, S07, S08, S09, S10, S11, S12}
 use Rattle.gate_settings.specs.declared.rule.Broken.{Broken}

@@ -1,5 +1,5 @@
 -- Trees that are a SEQUENCE, and those that are a SEQUENCE of one SEQUENCE.
-use Rattle.std.specs.Prelude.{ℕ, ◌==◌, Bool, false, ◌&&◌}
+use Rattle.std.specs.Prelude.{◌==◌, Bool, false, ◌&&◌}
 use Rattle.der_text.specs.Tree.{Node, primitive, constructed, Nodes, no_nodes, also}
 
 abbrev pub is_sequence : Node → Bool

@@ -1,4 +1,4 @@
-use Rattle.std.proofs.Common.{◌≡◌, ◌≤◌, ◌↔◌, length, IsTrue, sym, subst, ◌∙◌, arith}
+use Rattle.std.proofs.Common.{◌≤◌, ◌↔◌, length, IsTrue, sym, subst, ◌∙◌, arith}
 use Rattle.gate_settings.specs.Rules.{IsIssuerName}
 use Rattle.gate_settings.proofs.IssuerNames.{name_by_tree, no_name}
 use Rattle.gate_settings.proofs.issuer_name.is_issuer_name.Goals as goal

@@ -1,4 +1,3 @@
-use Rattle.std.proofs.Common.{◌≡◌}
 use Rattle.gate_settings.proofs.IssuerNames.{several}
 use Rattle.gate_settings.proofs.issuer_name.is_one_sequence.Goals as goal
 

@@ -1,4 +1,4 @@
-use Rattle.std.proofs.Common.{◌≡◌, ◌≢◌, ◌↔◌, ◌==◌, [], length, ap, ◌∙◌}
+use Rattle.std.proofs.Common.{◌≢◌, ◌==◌, [], length, ap, ◌∙◌}
 use Rattle.gate_settings.proofs.Domains.{itself, named_domain, same_issuer}
 use Rattle.gate_settings.proofs.issuers.is_domain.Goals as goal
 

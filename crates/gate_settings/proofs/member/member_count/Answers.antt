@@ -1,4 +1,4 @@
-use Rattle.std.proofs.Common.{◌≡◌, sym, ap, ◌∙◌}
+use Rattle.std.proofs.Common.{sym, ap, ◌∙◌}
 use Rattle.toml.specs.View.{view}
 use Rattle.gate_settings.specs.Reading.{member_count}
 use Rattle.gate_settings.proofs.Counts.{member_count-Table}

@@ -1,4 +1,4 @@
-use Rattle.std.proofs.Common.{◌≡◌, ◌∙◌, ap, sym, subst}
+use Rattle.std.proofs.Common.{◌∙◌, ap, sym, subst}
 use Rattle.perspectives.specs.Panel.{IsPanel}
 use Rattle.gate_settings.specs.Members.{members_of}
 use Rattle.gate_settings.proofs.Panels.{panel_kept}

@@ -1,4 +1,3 @@
-use Rattle.std.proofs.Common.{◌≡◌}
 use Rattle.std.proofs.lemmas.Result.{IfErr-weaker, on_ok_weaker}
 use Rattle.gate_settings.proofs.Kept.{none_broken, tells_least}
 use Rattle.gate_settings.proofs.settings.read.Goals as goal
