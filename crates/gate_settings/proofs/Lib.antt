@@ -1,0 +1,6 @@
+mod Counts
+mod Domains
+mod IssuerNames
+mod Kept
+mod Panels
+mod Toml

@@ -1,0 +1,7 @@
+pub mod Words
+pub mod Reading
+pub mod Callers
+pub mod Members
+pub mod Sequences
+pub mod Rules
+pub mod Meaning
