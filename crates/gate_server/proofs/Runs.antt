@@ -80,7 +80,7 @@ ended_settled status old held plant clock source sink ended none same =
     let first = steps_later old.state last.state acme ended.talked.commands ended.talked.replies ended.talked.steps in
     let then = ends_later status last new ended.ends in
     let settled = steps_settled old.state last.state acme ended.talked.commands ended.talked.replies ended.talked.steps none
-        (λ rose. same (rose_before _ _ _ then rose)) in
+    (λ rose. same (rose_before _ _ _ then rose)) in
     ends_settled status last new ended.ends settled (λ rose. same (rose_behind _ _ _ first rose))
 
 pub session_of : (plant mounted plant' : PlantTold) (clock clock' : ClockTold) (source source' : SourceTold) (sink sink' : SinkTold) (status : Status)

@@ -1,6 +1,6 @@
 -- Steps one after another.
 use Rattle.std.proofs.Common.{◌≡◌, ◌≢◌, ℕ, ◌+◌, ◌-◌, ◌^◌, ◌≤◌, ◌⊎◌, inl, inr, min, List, [], ◌∷◌, ◌++◌, Option, Some, None, refl, sym, ap, subst, ◌∙◌, arith}
-use Rattle.plant.specs.Causes.{Rose}
+use Rattle.plant.specs.Causes.{Rose, RoseBy}
 use Rattle.plant.specs.Clock.{ClockTold}
 use Rattle.gate_entries.specs.declared.caller.Caller.{Caller}
 use Rattle.gate_entries.specs.declared.command.Command.{Command}
@@ -10,6 +10,7 @@ use Rattle.gate_entries.specs.declared.reply.Reply.TheVariants.{Placed, KeyReuse
 use Rattle.gate_machine.specs.declared.answer.Answer.{Answer}
 use Rattle.gate_machine.specs.declared.answer.Answer.TheVariants.{Say, Write}
 use Rattle.gate_machine.specs.Step.{Held, State, Acted, Acts, Does, Goes, Step, Steps}
+use Rattle.gate_server.specs.Session.{tells_disk, tells_clock}
 
 pub steps_more : (old mid new : State) (caller : Caller) (commands : List Command) (replies : List Reply) (command : Command) (reply : Reply)
     → Steps old caller commands replies mid → Step mid caller command reply new → Steps old caller (commands ++ command ∷ []) (replies ++ reply ∷ []) new
@@ -80,3 +81,57 @@ steps_settled old new caller (first ∷ commands) (answer ∷ replies) steps non
     let later = steps_later mid new caller commands replies steps.2 in
     let settled = step_settled old mid caller first answer steps.1 none (λ rose. same (rose_before _ _ _ later rose)) in
     steps_settled mid new caller commands replies steps.2 settled (λ rose. same (rose_behind _ _ _ steps.1.later rose))
+
+-- ---- a fault that is told has its count
+
+no_more : (before now : ℕ) → before ≤ now → RoseBy 0 before now
+no_more before now later = omega (arith, later)
+
+pub step_disk : (old new : State) (caller : Caller) (command : Command) (reply : Reply) → Step old caller command reply new
+    → RoseBy (tells_disk reply) old.disk_faults new.disk_faults
+step_disk old new caller command DiskFault step = step.cause refl
+step_disk old new caller command (Placed order) step = no_more _ _ step.later
+step_disk old new caller command (KeyReused kept) step = no_more _ _ step.later
+step_disk old new caller command (ClockRange reading) step = no_more _ _ step.later
+step_disk old new caller command Full step = no_more _ _ step.later
+step_disk old new caller command ClockFault step = no_more _ _ step.later
+step_disk old new caller command (JournalBad at) step = no_more _ _ step.later
+step_disk old new caller command NoMemory step = no_more _ _ step.later
+
+goes_later : (history : List Entry) (clock clock' : ClockTold) (caller : Caller) (command : Command) (reply : Reply) (new : Held)
+    → Goes history clock clock' caller command reply new → clock.faults ≤ clock'.faults
+goes_later history clock clock' caller command reply new goes = elim goes [
+  | inl fails ↦ fails.reads.later
+  | inr read ↦ read.reads.later
+]
+
+step_clock_later : (old new : State) (caller : Caller) (command : Command) (reply : Reply) → Step old caller command reply new
+    → old.clock.faults ≤ new.clock.faults
+step_clock_later old new caller command reply step = elim step.goes [
+  | inl fails ↦ (let same = ap (λ (c : ClockTold). c.faults) fails.clock_same in omega (arith, same))
+  | inr settled ↦ goes_later settled.history old.clock new.clock caller command reply new.held settled.goes
+]
+
+unread : (history : List Entry) (clock clock' : ClockTold) (caller : Caller) (command : Command) (new : Held)
+    → Goes history clock clock' caller command ClockFault new → Rose clock.faults clock'.faults
+unread history clock clock' caller command new goes = elim goes [
+  | inl fails ↦ fails.reads.failed
+  | inr read ↦ absurd read.acts
+]
+
+step_unread : (old new : State) (caller : Caller) (command : Command) → Step old caller command ClockFault new → Rose old.clock.faults new.clock.faults
+step_unread old new caller command step = elim step.goes [
+  | inl fails ↦ absurd fails.ends
+  | inr settled ↦ unread settled.history old.clock new.clock caller command new.held settled.goes
+]
+
+pub step_clock : (old new : State) (caller : Caller) (command : Command) (reply : Reply) → Step old caller command reply new
+    → RoseBy (tells_clock reply) old.clock.faults new.clock.faults
+step_clock old new caller command ClockFault step = step_unread old new caller command step
+step_clock old new caller command DiskFault step = no_more _ _ (step_clock_later old new caller command DiskFault step)
+step_clock old new caller command (Placed order) step = no_more _ _ (step_clock_later old new caller command (Placed order) step)
+step_clock old new caller command (KeyReused kept) step = no_more _ _ (step_clock_later old new caller command (KeyReused kept) step)
+step_clock old new caller command (ClockRange reading) step = no_more _ _ (step_clock_later old new caller command (ClockRange reading) step)
+step_clock old new caller command Full step = no_more _ _ (step_clock_later old new caller command Full step)
+step_clock old new caller command (JournalBad at) step = no_more _ _ (step_clock_later old new caller command (JournalBad at) step)
+step_clock old new caller command NoMemory step = no_more _ _ (step_clock_later old new caller command NoMemory step)

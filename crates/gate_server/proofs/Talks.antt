@@ -1,5 +1,8 @@
 -- Exchanges one after another.
-use Rattle.std.proofs.Common.{◌≡◌, ℕ, ◌≤◌, ◌⊎◌, inl, inr, List, [], ◌∷◌, ◌++◌, Option, Some, None, refl, sym, ap, subst, ◌∙◌, append_assoc, append-nil, arith}
+use Rattle.std.proofs.Common.{◌≡◌, ℕ, ◌+◌, ◌≤◌, List, [], ◌∷◌, ◌++◌, Option, Some, None, refl, sym, ap, subst, ◌∙◌, append_assoc, append-nil, zero-add, arith}
+use Rattle.std.specs.Prelude.{sum_by}
+use Rattle.std.proofs.lemmas.List.Sums.{sum_by-append}
+use Rattle.plant.specs.Causes.{RoseBy}
 use Rattle.std.specs.List.{flat_map, AllByRecursion}
 use Rattle.std.specs.Io.KnownBytes.{Appends}
 use Rattle.std.proofs.lemmas.Grind.{flat_map-append}
@@ -9,8 +12,8 @@ use Rattle.plant.specs.Stream.{SourceTold}
 use Rattle.wire_front.specs.Message.{message_of, IsMessage}
 use Rattle.wire_front.specs.Reply.{text_of}
 use Rattle.wire_front.specs.Stream.{StreamState, Passes}
-use Rattle.gate_server.specs.Session.{acme, Talk, Answers, Talked, messages_of, texts_of}
-use Rattle.gate_server.proofs.Steps.{steps_more}
+use Rattle.gate_server.specs.Session.{acme, Talk, Answers, Talked, messages_of, texts_of, tells_disk, tells_clock}
+use Rattle.gate_server.proofs.Steps.{steps_more, step_disk, step_clock}
 
 each_more : {A : Type 0} (Is : A → Type 0) (items : List A) (item : A) → AllByRecursion Is items → Is item → AllByRecursion Is (items ++ item ∷ [])
 each_more Is [] item each is = (is, tt)
@@ -29,10 +32,15 @@ puts_more (Some a) None c left right first second = absurd first
 puts_more (Some a) (Some b) None left right first second = absurd second
 puts_more (Some a) (Some b) (Some c) left right first second = second ∙ ap (λ (l : List ℕ). l ++ right) first ∙ append_assoc a left right
 
+told_more : (tells : Reply → ℕ) (replies : List Reply) (reply : Reply) → sum_by tells (replies ++ reply ∷ []) ≡ sum_by tells replies + tells reply
+told_more tells replies reply = sum_by-append tells replies (reply ∷ []) ∙ ap (λ (n : ℕ). sum_by tells replies + n) (zero-add (tells reply))
+
+rose_more : (n m sum a b c : ℕ) → sum ≡ n + m → RoseBy n a b → RoseBy m b c → RoseBy sum a c
+rose_more n m sum a b c is first second = omega (arith, is, first, second)
+
 module _ (none : (stream : StreamState) (source : SourceTold) → Passes stream source stream source [])
     (more : (old mid new : StreamState) (source source' source'' : SourceTold) (left right : List ℕ) → Passes old source mid source' left
-      → Passes mid source' new source'' right → Passes old source new source'' (left ++ right)) where
-
+    → Passes mid source' new source'' right → Passes old source new source'' (left ++ right)) where
   pub talked_none : (talk : Talk) → Talked talk talk
   talked_none talk = record {
     commands = [];
@@ -43,6 +51,8 @@ module _ (none : (stream : StreamState) (source : SourceTold) → Passes stream 
     puts = puts_none talk.sink.held;
     read_later = omega arith;
     put_later = omega arith;
+    disk_told = omega arith;
+    clock_told = omega arith;
   }
 
   pub talked_more : (old mid new : Talk) → Talked old mid → Answers mid new → mid.source.faults ≤ new.source.faults → mid.sink.faults ≤ new.sink.faults → Talked old new
@@ -57,4 +67,8 @@ module _ (none : (stream : StreamState) (source : SourceTold) → Passes stream 
         (puts_more old.sink.held mid.sink.held new.sink.held (texts_of talked.replies) (text_of answers.reply) talked.puts answers.puts);
     read_later = omega (arith, talked.read_later, read);
     put_later = omega (arith, talked.put_later, put);
+    disk_told = rose_more (sum_by tells_disk talked.replies) (tells_disk answers.reply) _ old.state.disk_faults mid.state.disk_faults new.state.disk_faults
+        (told_more tells_disk talked.replies answers.reply) talked.disk_told (step_disk mid.state new.state acme answers.command answers.reply answers.exchanges.step);
+    clock_told = rose_more (sum_by tells_clock talked.replies) (tells_clock answers.reply) _ old.state.clock.faults mid.state.clock.faults new.state.clock.faults
+        (told_more tells_clock talked.replies answers.reply) talked.clock_told (step_clock mid.state new.state acme answers.command answers.reply answers.exchanges.step);
   }

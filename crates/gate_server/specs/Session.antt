@@ -1,20 +1,18 @@
 -- A session: messages that are taken, asked and answered, one after another, and how it ends.
-use Rattle.std.specs.Prelude.{◌≡◌, ℕ, ◌+◌, ◌≤◌, ◌⊎◌, List, [], ◌∷◌, ◌++◌, length, take, codes, Bool, true, false, Result, Ok, Err, IfSome, None}
+use Rattle.std.specs.Prelude.{◌≡◌, ℕ, ◌+◌, ◌≤◌, ◌⊎◌, List, [], ◌∷◌, ◌++◌, length, codes, sum_by, false, Result, Ok, Err, IfSome}
 use Rattle.std.specs.List.{flat_map, AllByRecursion}
-use Rattle.std.specs.Option.{ForSome}
-use Rattle.std.specs.Io.KnownBytes.{Appends, Consumes, IsAtEnd}
+use Rattle.std.specs.Io.KnownBytes.{Appends, IsAtEnd}
 use Rattle.gate_base.specs.declared.profile.Role.TheVariants.{Account}
-use Rattle.plant.specs.Causes.{Rose}
+use Rattle.plant.specs.Causes.{Rose, RoseBy}
 use Rattle.plant.specs.Plant.{PlantTold}
 use Rattle.plant.specs.Clock.{ClockTold}
 use Rattle.plant.specs.Stream.{SourceTold, SinkTold, AppendsFront}
-use Rattle.journal_core.specs.Journal.{IsJournal}
 use Rattle.gate_entries.specs.declared.caller.Caller.{Caller}
 use Rattle.gate_entries.specs.declared.command.Command.{Command}
 use Rattle.gate_entries.specs.declared.reply.Reply.{Reply}
-use Rattle.gate_machine.specs.History.{Legal}
+use Rattle.gate_entries.specs.declared.reply.Reply.TheVariants.{Placed, KeyReused, ClockRange, Full, ClockFault, DiskFault, JournalBad, NoMemory}
 use Rattle.gate_machine.specs.Step.{Held, State, Step, Steps}
-use Rattle.gate_engine.specs.Engine.{payloads_of, state_of}
+use Rattle.gate_engine.specs.Engine.{state_of}
 use Rattle.wire_front.specs.Message.{message_of, IsMessage, HasNoMessage}
 use Rattle.wire_front.specs.Reply.{text_of}
 use Rattle.wire_front.specs.Stream.{StreamState, Passes, most_taken}
@@ -98,7 +96,28 @@ abbrev pub Turns : Result (Unit {0}) Status → Talk → Talk → Type 0
 Turns (Ok done) old new = Answers old new
 Turns (Err status) old new = Ends status old new
 
--- messages that were asked and answered, in order
+-- 1 for a reply that tells a fault of the disk, of the clock
+abbrev pub tells_disk : Reply → ℕ
+tells_disk DiskFault = 1
+tells_disk (Placed order) = 0
+tells_disk (KeyReused kept) = 0
+tells_disk (ClockRange reading) = 0
+tells_disk Full = 0
+tells_disk ClockFault = 0
+tells_disk (JournalBad at) = 0
+tells_disk NoMemory = 0
+
+abbrev pub tells_clock : Reply → ℕ
+tells_clock ClockFault = 1
+tells_clock DiskFault = 0
+tells_clock (Placed order) = 0
+tells_clock (KeyReused kept) = 0
+tells_clock (ClockRange reading) = 0
+tells_clock Full = 0
+tells_clock (JournalBad at) = 0
+tells_clock NoMemory = 0
+
+-- messages that were asked and answered, in order; each count rose by as many as its faults were told, at least
 pub record Talked (old new : Talk) : Type 0 where
   pub commands : List Command
   pub each : AllByRecursion IsMessage commands
@@ -108,6 +127,8 @@ pub record Talked (old new : Talk) : Type 0 where
   pub puts : Appends old.sink.held new.sink.held (texts_of replies)
   pub read_later : old.source.faults ≤ new.source.faults
   pub put_later : old.sink.faults ≤ new.sink.faults
+  pub disk_told : RoseBy (sum_by tells_disk replies) old.state.disk_faults new.state.disk_faults
+  pub clock_told : RoseBy (sum_by tells_clock replies) old.state.clock.faults new.state.clock.faults
 
 -- the messages, and how they ended; the bytes that are held at the end are no longer told
 pub record Ended (status : Status) (old : Talk) (held : Held) (plant : PlantTold) (clock : ClockTold) (source : SourceTold) (sink : SinkTold) : Type 0 where

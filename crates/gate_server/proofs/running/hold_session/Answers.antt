@@ -15,8 +15,8 @@ returns-in-Ok-clause-holds g c =
     let sink = g.K.Sink.told c.answer_messages.new.sink in
     let status = c.answer_messages.result in
     let ended = subst (λ (k : ClockTold). Ended status
-        (talk_of before mounted k begun (g.S.Source.told c.args.source.now) (g.K.Sink.told c.args.sink.now)) after left clock source sink)
-        c.in-Ok.ensures.clock c.answer_messages.ensures.ended in
+    (talk_of before mounted k begun (g.S.Source.told c.args.source.now) (g.K.Sink.told c.args.sink.now)) after left clock source sink)
+    c.in-Ok.ensures.clock c.answer_messages.ensures.ended in
     session_of (g.P.Plant.told c.args.plant.now) mounted left (g.C.Clock.told c.args.clock.now) clock (g.S.Source.told c.args.source.now) source
     (g.K.Sink.told c.args.sink.now) sink status before after c.in-Ok.ensures.settled c.in-Ok.ensures.legal c.in-Ok.ensures.stands c.in-Ok.ensures.bytes
     c.in-Ok.ensures.later ended c.answer_messages.ensures.stands

@@ -7,7 +7,7 @@ use Rattle.gate_server.proofs.session.answer_messages.Goals as goal
 pub returns-in_default-clause-ended : goal.returns-in_default-clause-ended
 returns-in_default-clause-ended g c =
     let talk = talk_of c.args.engine.now (g.P.Plant.told c.args.plant.now) (g.C.Clock.told c.args.clock.now) begun (g.S.Source.told c.args.source.now)
-        (g.K.Sink.told c.args.sink.now) in
+    (g.K.Sink.told c.args.sink.now) in
     record {
       last = talk;
       talked = talked_none c.one_passing.ensures.none c.one_passing.ensures.more talk;
@@ -18,7 +18,7 @@ returns-in_default-clause-ended g c =
 pub loop-status-init : goal.loop-status-init
 loop-status-init g c =
     let talk : (stream : StreamState) → _ = λ (stream : StreamState). talk_of c.args.engine.now (g.P.Plant.told c.args.plant.now) (g.C.Clock.told c.args.clock.now)
-        stream (g.S.Source.told c.args.source.now) (g.K.Sink.told c.args.sink.now) in
+    stream (g.S.Source.told c.args.source.now) (g.K.Sink.told c.args.sink.now) in
     record {
       caller = c.in-Ok.ensures;
       talked = subst (λ (stream : StreamState). Talked (talk begun) (talk stream)) (sym c.new-stream.ensures)
