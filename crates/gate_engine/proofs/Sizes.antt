@@ -1,10 +1,10 @@
 -- A history's journal is as long as its payloads' journal.
-use Rattle.std.proofs.Common.{◌≡◌, ℕ, ◌+◌, List, [], ◌∷◌, ◌++◌, length, map, refl, ap, sym, ◌∙◌, arith}
+use Rattle.std.proofs.Common.{◌≡◌, ℕ, ◌+◌, List, [], ◌∷◌, length, map, refl, ap, sym, ◌∙◌}
 use Rattle.std.specs.Prelude.{sum_by}
 use Rattle.std.proofs.lemmas.List.Sums.{sum_by-cons}
 use Rattle.gate_entries.specs.declared.entry.Entry.{Entry}
 use Rattle.gate_entries.specs.Spelling.{entry_bytes}
-use Rattle.gate_machine.specs.History.{record_size, journal_size}
+use Rattle.gate_machine.specs.History.{journal_size}
 use Rattle.gate_engine.specs.Engine.{payloads_of}
 
 sum_by-map : {A B : Type 0} (f : B → ℕ) (g : A → B) (items : List A) → sum_by f (map g items) ≡ sum_by (λ item. f (g item)) items

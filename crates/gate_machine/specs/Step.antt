@@ -1,5 +1,5 @@
 -- One step of a gate: a command, its reply, and what the gate and the outside are before and after.
-use Rattle.std.specs.Prelude.{◌≡◌, ℕ, ◌≤◌, ◌⊎◌, List, [], ◌∷◌, ◌++◌, Option, Some, None, option_to_list, MatchOption}
+use Rattle.std.specs.Prelude.{◌≡◌, ℕ, ◌≤◌, ◌⊎◌, List, [], ◌∷◌, ◌++◌, Option, Some, None, option_to_list}
 use Rattle.plant.specs.Causes.{Rose}
 use Rattle.plant.specs.Clock.{ClockTold, Reads}
 use Rattle.gate_entries.specs.declared.caller.Caller.{Caller}

@@ -1,5 +1,5 @@
 -- What a start and its messages make of a session.
-use Rattle.std.proofs.Common.{◌≡◌, ℕ, ◌≤◌, ◌⊎◌, inl, inr, Some, None, refl, ap, ◌∙◌, subst, arith}
+use Rattle.std.proofs.Common.{◌≡◌, ◌≤◌, inl, inr, None, refl, ap, ◌∙◌, subst, arith}
 use Rattle.std.specs.Option.{ForSome}
 use Rattle.plant.specs.Causes.{Rose}
 use Rattle.plant.specs.Plant.{PlantTold}
@@ -13,8 +13,8 @@ use Rattle.gate_engine.specs.declared.fault.StartFault.TheVariants as starts
 use Rattle.gate_engine.specs.Engine.{payloads_of, StandsForPlant, RefusesStart}
 use Rattle.gate_server.specs.declared.status.Status.{Status}
 use Rattle.gate_server.specs.declared.status.Status.TheVariants as statuses
-use Rattle.gate_server.specs.Session.{acme, Talk, talk_of, begun, Rests, BreaksOff, Talked, Ends, Ended}
-use Rattle.gate_server.specs.Run.{Outside, outside_of, IsStartStatus, Refused, Session, HoldsSession}
+use Rattle.gate_server.specs.Session.{acme, Talk, talk_of, begun, Rests, BreaksOff, Ends, Ended}
+use Rattle.gate_server.specs.Run.{outside_of, IsStartStatus, HoldsSession}
 use Rattle.gate_server.proofs.Steps.{step_settled, steps_later, steps_settled, rose_before, rose_behind}
 
 pub refused_of : (plant plant' : PlantTold) (clock : ClockTold) (source : SourceTold) (sink : SinkTold) (fault : StartFault) (status : Status)

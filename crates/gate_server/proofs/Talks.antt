@@ -6,7 +6,6 @@ use Rattle.plant.specs.Causes.{RoseBy}
 use Rattle.std.specs.List.{flat_map, AllByRecursion}
 use Rattle.std.specs.Io.KnownBytes.{Appends}
 use Rattle.std.proofs.lemmas.Grind.{flat_map-append}
-use Rattle.gate_entries.specs.declared.command.Command.{Command}
 use Rattle.gate_entries.specs.declared.reply.Reply.{Reply}
 use Rattle.plant.specs.Stream.{SourceTold}
 use Rattle.wire_front.specs.Message.{message_of, IsMessage}

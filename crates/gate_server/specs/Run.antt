@@ -2,7 +2,6 @@
 use Rattle.std.specs.Prelude.{◌≡◌, ◌≢◌, ℕ, ◌≤◌, ◌⊎◌, List, [], ◌∷◌, length, codes, Some, None, true, IfSome}
 use Rattle.std.specs.Option.{ForSome, option_map}
 use Rattle.std.specs.Io.KnownBytes.{IsAtEnd}
-use Rattle.gate_base.specs.declared.moment.Moment.{Moment}
 use Rattle.plant.specs.Causes.{Rose}
 use Rattle.plant.specs.Plant.{PlantTold}
 use Rattle.plant.specs.Clock.{ClockTold, Reads}

@@ -1,5 +1,5 @@
 -- A message has bytes.
-use Rattle.std.proofs.Common.{ℕ, ◌≤◌, ◌++◌, length, arith}
+use Rattle.std.proofs.Common.{◌≤◌, length, arith}
 use Rattle.gate_entries.specs.declared.command.Command.{Command}
 use Rattle.wire_front.specs.Message.{message_of}
 

@@ -1,5 +1,5 @@
 -- Bytes that pass a stream.
-use Rattle.std.proofs.Common.{◌≡◌, ℕ, List, [], ◌++◌, length, Option, Some, None, refl, sym, ap, ◌∙◌, append_assoc, length-append, arith}
+use Rattle.std.proofs.Common.{ℕ, List, [], ◌++◌, Option, Some, None, refl, sym, ap, ◌∙◌, append_assoc, length-append, arith}
 use Rattle.std.specs.Io.KnownBytes.{prepend_known, Consumes}
 use Rattle.plant.specs.Stream.{SourceTold}
 use Rattle.wire_front.specs.Stream.{StreamState, Passes}

@@ -1,4 +1,4 @@
-use Rattle.std.proofs.Common.{◌≡◌, ℕ, List, [], ◌++◌, length, ap, ◌∙◌, arith}
+use Rattle.std.proofs.Common.{◌≡◌, ℕ, List, ◌++◌, length, ap, ◌∙◌, arith}
 use Rattle.gate_entries.specs.Spelling.{entry_bytes}
 use Rattle.gate_engine.proofs.Stands.{some_bytes}
 use Rattle.gate_engine.proofs.beginning.settings_payload.Goals as goal

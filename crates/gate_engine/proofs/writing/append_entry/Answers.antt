@@ -1,4 +1,4 @@
-use Rattle.std.proofs.Common.{◌≡◌, List, ℕ, ◌++◌, ◌∷◌, [], ◌∙◌, length, ap, sym, subst, arith}
+use Rattle.std.proofs.Common.{List, ℕ, ◌++◌, ◌∷◌, [], ◌∙◌, length, ap, subst, arith}
 use Rattle.journal_core.specs.Journal.{StandsFor}
 use Rattle.gate_engine.proofs.Stands.{some_bytes}
 use Rattle.gate_engine.proofs.writing.append_entry.Goals as goal

@@ -1,4 +1,4 @@
-use Rattle.std.proofs.Common.{◌≡◌, Some, sym, ap, ◌∙◌}
+use Rattle.std.proofs.Common.{sym, ap, ◌∙◌}
 use Rattle.gate_machine.specs.History.{kept_for}
 use Rattle.gate_machine.proofs.Kept.{kept_answer}
 use Rattle.gate_machine.proofs.answer.answer_command.Goals as goal

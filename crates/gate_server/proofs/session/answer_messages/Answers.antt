@@ -1,4 +1,4 @@
-use Rattle.std.proofs.Common.{◌≡◌, refl, sym, ap, subst, ◌∙◌, inl, arith}
+use Rattle.std.proofs.Common.{refl, sym, ap, subst, ◌∙◌, inl, arith}
 use Rattle.wire_front.specs.Stream.{StreamState}
 use Rattle.gate_server.specs.Session.{talk_of, begun, Talked}
 use Rattle.gate_server.proofs.Talks.{talked_none, talked_more}

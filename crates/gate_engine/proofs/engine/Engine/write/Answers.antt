@@ -1,7 +1,7 @@
-use Rattle.std.proofs.Common.{◌≡◌, ◌∙◌, ap, refl, sym}
+use Rattle.std.proofs.Common.{◌∙◌, ap, refl}
 use Rattle.plant.specs.Plant.{PlantTold}
 use Rattle.gate_machine.specs.Step.{Held}
-use Rattle.gate_engine.proofs.Stands.{stands_same, stands_more, ends}
+use Rattle.gate_engine.proofs.Stands.{stands_same, stands_more}
 use Rattle.gate_engine.proofs.engine.Engine.write.Goals as goal
 use Rattle.gate_engine.proofs.engine.Engine.write.Goals.{in-Settings-2, in-Order-2}
 

@@ -1,4 +1,4 @@
-use Rattle.std.proofs.Common.{◌≡◌, ℕ, ◌<◌, ◌^◌, sym, subst, arith}
+use Rattle.std.proofs.Common.{◌<◌, ◌^◌, sym, subst, arith}
 use Rattle.gate_entries.specs.Spelling.{IsEntry}
 use Rattle.gate_entries.proofs.Sizes.{settings_spelled}
 use Rattle.gate_entries.proofs.entry.Entry.settings.Goals as goal
