@@ -4,7 +4,8 @@ use std::fmt;
 /// Why settings were not read.
 #[derive(Clone, Copy, Debug, PartialEq, Eq)]
 pub enum SettingsFault {
-    /// The rule of this number is broken, and none with a lesser one; the item counts from 1, and is 0 where there is none.
+    /// The rule of this number is broken, and none with a lesser one. The item counts from 1, and is 0 where
+    /// no place is told.
     Rule { rule: u8, item: u64 },
     NoMemory,
 }

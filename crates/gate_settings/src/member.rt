@@ -78,7 +78,7 @@ pub fn member_count(value: &Value) -> usize
     }
 }
 
-/// Refuses a table that has another number of members.
+/// Whether a table has so many members.
 pub fn has_members(value: &Value, count: usize) -> bool
     ensures { result ≡ (member_count (view value.now) == count) }
 {

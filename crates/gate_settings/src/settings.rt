@@ -2,7 +2,8 @@ ghost use Rattle.std.specs.Prelude.{◌≡◌, Some, Ok, IfOk, OnOk, IfErr};
 ghost use Rattle.names_core.specs.Suffix.{rules_read};
 ghost use Rattle.gate_settings.specs.Meaning.{AreSettingsOf, Says};
 ghost use Rattle.gate_settings.specs.Reading as reading;
-ghost use Rattle.gate_settings.specs.Rules.{Breaks, DocumentBreaks, IsKept, IsLeastFault, NoneBefore, NoneBroken, TellsLeast, TellsOf};
+ghost use Rattle.gate_settings.specs.Rules.{Breaks, DocumentBreaks, IsKept, IsLeastFault};
+ghost use Rattle.gate_settings.specs.Rules.{NoneBefore, NoneBroken, TellsLeast, TellsOf};
 
 use crate::authority::profile_of;
 use crate::callers::{Callers, callers_of};
