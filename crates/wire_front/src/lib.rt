@@ -10,3 +10,6 @@ mod streaming;
 pub use message::{Found, find_message, one_message};
 pub use replying::reply_text;
 pub use streaming::{Stream, Taken};
+
+#[cfg(test)]
+mod tests;
