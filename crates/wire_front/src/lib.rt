@@ -2,12 +2,14 @@
 #![tactic(auto)]
 
 mod cutting;
+mod law;
 mod message;
 mod naming;
 mod replying;
 mod streaming;
 
-pub use message::{Found, find_message, one_message};
+pub use law::one_message;
+pub use message::{Found, find_message};
 pub use replying::reply_text;
 pub use streaming::{Stream, Taken};
 
