@@ -1,4 +1,5 @@
 pub mod Message
+pub mod Law
 pub mod Reading
 pub mod Reply
 pub mod Stream

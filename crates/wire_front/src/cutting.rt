@@ -17,7 +17,7 @@ pub enum Absent {
 }
 
 /// The most bytes of a body, and the most digits of their number.
-pub const BODY_LIMIT: u64 = 65_536;
+const BODY_LIMIT: u64 = 65_536;
 
 const BODY_LIMIT_DIGITS: usize = 5;
 

@@ -8,8 +8,8 @@ mod naming;
 mod replying;
 mod streaming;
 
-pub use law::one_passing;
-pub use message::{Found, find_message, one_message};
+pub use law::{one_message, one_passing};
+pub use message::{Found, find_message};
 pub use replying::reply_text;
 pub use streaming::{Stream, Taken};
 

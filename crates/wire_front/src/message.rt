@@ -1,11 +1,10 @@
 //! The one form of message: an order of the account `acme`.
-ghost use Rattle.std.specs.Prelude.{◌≡◌, ◌++◌, length, List, ℕ, IfOk, IfErr};
+ghost use Rattle.std.specs.Prelude.{◌≡◌, ◌++◌, length, IfOk, IfErr};
 ghost use Rattle.std.specs.Option.{option_map};
 ghost use Rattle.std.specs.Fmt.{decimal};
 ghost use Rattle.base64.specs.GeneralPurpose.{encode_of};
 ghost use Rattle.base64.specs.Engines.{standard};
-ghost use Rattle.gate_entries.specs.declared.command.Command.{Command as CommandValue};
-ghost use Rattle.wire_front.specs.Message.{message_of, body_of, framed, is_key, IsRequest, IsDays, IsSaid, IsMessage, TellsMessage};
+ghost use Rattle.wire_front.specs.Message.{body_of, framed, is_key, IsRequest, IsDays, IsSaid, TellsMessage};
 ghost use Rattle.wire_front.specs.Reading.{Reads, IsAbsent, StartsWithFrame, IsSize, members_at, texts_of};
 
 use crate::cutting::{
@@ -62,11 +61,6 @@ pub fn find_message(alloc: Global, bytes: &[u8]) -> Found
         Err(Absent::ForGood) => Found::Never,
     }
 }
-
-/// At most one message stands at the front.
-pub fn one_message()
-    ensures { (left right : CommandValue) → (r s : List ℕ) → IsMessage left → IsMessage right → message_of left ++ r ≡ message_of right ++ s → (left ≡ right) × (r ≡ s) }
-{}
 
 /// The body at the front, behind its head, and what stands behind it.
 fn find_body(bytes: &[u8]) -> Result<(&[u8], &[u8]), Absent>
