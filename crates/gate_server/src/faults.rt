@@ -12,7 +12,7 @@ const FIRST_MOMENT: u64 = 1_757_894_400;
 
 const LAST_MOMENT: u64 = 4_102_444_799;
 
-const NONE: &[u8] = b"";
+const NO_REPLY: &[u8] = b"";
 
 const DISK_FAULT: &[u8] =
     b"HTTP/1.1 503 Service Unavailable\r\ncontent-type: application/json\r\ncontent-length: 22\r\n\r\n\
@@ -124,14 +124,20 @@ fn leaves(rt: &impl Abort, alloc: Global, failing: Failing, readings: &[Option<u
 fn each_call_of_the_disk_fails_once(rt: HostRuntime) {
     for (call, left) in [
         // `begin`: length, write, sync.
-        (1, (Status::DiskFault, Status::NotBegun, NONE, NONE, 0)),
-        (2, (Status::DiskFault, Status::NotBegun, NONE, NONE, 0)),
+        (
+            1,
+            (Status::DiskFault, Status::NotBegun, NO_REPLY, NO_REPLY, 0),
+        ),
+        (
+            2,
+            (Status::DiskFault, Status::NotBegun, NO_REPLY, NO_REPLY, 0),
+        ),
         (3, (Status::DiskFault, Status::Ok, PLACED, PLACED, 211)),
         // The mount: sync, length, the head, the records.
-        (4, (Status::Ok, Status::DiskFault, NONE, NONE, 43)),
-        (5, (Status::Ok, Status::DiskFault, NONE, NONE, 43)),
-        (6, (Status::Ok, Status::DiskFault, NONE, NONE, 43)),
-        (7, (Status::Ok, Status::DiskFault, NONE, NONE, 43)),
+        (4, (Status::Ok, Status::DiskFault, NO_REPLY, NO_REPLY, 43)),
+        (5, (Status::Ok, Status::DiskFault, NO_REPLY, NO_REPLY, 43)),
+        (6, (Status::Ok, Status::DiskFault, NO_REPLY, NO_REPLY, 43)),
+        (7, (Status::Ok, Status::DiskFault, NO_REPLY, NO_REPLY, 43)),
         // The order: write, sync. The second message settles what became of it.
         (8, (Status::Ok, Status::Ok, DISK_FAULT, PLACED, 211)),
         (9, (Status::Ok, Status::Ok, DISK_FAULT, PLACED, 211)),
@@ -148,24 +154,37 @@ fn each_call_of_the_disk_fails_once(rt: HostRuntime) {
 
 #[test]
 fn each_take_and_each_put_fails_once(rt: HostRuntime) {
-    let conf = Status::ReadFault { settings: true };
-    let source = Status::ReadFault { settings: false };
+    let unread = Status::ReadFault { settings: true };
+    let cut_off = Status::ReadFault { settings: false };
     for (settings, take, put, left) in [
-        (1, 0, 0, (conf, Status::NotBegun, NONE, NONE, 0)),
-        (2, 0, 0, (Status::Ok, conf, NONE, NONE, 43)),
+        // The settings: once for each word.
+        (1, 0, 0, (unread, Status::NotBegun, NO_REPLY, NO_REPLY, 0)),
+        (2, 0, 0, (Status::Ok, unread, NO_REPLY, NO_REPLY, 43)),
         (3, 0, 0, (Status::Ok, Status::Ok, PLACED, PLACED, 211)),
-        (0, 1, 0, (Status::Ok, source, NONE, NONE, 43)),
-        (0, 2, 0, (Status::Ok, source, PLACED, PLACED, 211)),
+        // The messages: all of their bytes, and the end.
+        (0, 1, 0, (Status::Ok, cut_off, NO_REPLY, NO_REPLY, 43)),
+        (0, 2, 0, (Status::Ok, cut_off, PLACED, PLACED, 211)),
         (0, 3, 0, (Status::Ok, Status::Ok, PLACED, PLACED, 211)),
-        (0, 0, 1, (Status::Ok, Status::WriteFault, NONE, NONE, 211)),
-        (0, 0, 2, (Status::Ok, Status::WriteFault, PLACED, NONE, 211)),
+        // The replies: one for each message.
+        (
+            0,
+            0,
+            1,
+            (Status::Ok, Status::WriteFault, NO_REPLY, NO_REPLY, 211),
+        ),
+        (
+            0,
+            0,
+            2,
+            (Status::Ok, Status::WriteFault, PLACED, NO_REPLY, 211),
+        ),
         (0, 0, 3, (Status::Ok, Status::Ok, PLACED, PLACED, 211)),
     ] {
         let failing = Failing {
-            disk: 0,
             settings,
             take,
             put,
+            ..SOUND
         };
         leaves(&rt, rt.alloc(), failing, &[Some(MOMENT)], left);
     }
@@ -185,7 +204,7 @@ fn each_reading_fails_once_or_is_out_of_range(rt: HostRuntime) {
     for (readings, left) in [
         (
             [None, now, now],
-            (Status::ClockFault, Status::NotBegun, NONE, NONE, 0),
+            (Status::ClockFault, Status::NotBegun, NO_REPLY, NO_REPLY, 0),
         ),
         (
             [now, None, now],
@@ -197,11 +216,11 @@ fn each_reading_fails_once_or_is_out_of_range(rt: HostRuntime) {
         ),
         (
             [early, now, now],
-            (too_early, Status::NotBegun, NONE, NONE, 0),
+            (too_early, Status::NotBegun, NO_REPLY, NO_REPLY, 0),
         ),
         (
             [late, now, now],
-            (too_late, Status::NotBegun, NONE, NONE, 0),
+            (too_late, Status::NotBegun, NO_REPLY, NO_REPLY, 0),
         ),
         (
             [now, early, now],
