@@ -31,14 +31,21 @@ class Wrong(Exception):
 
 def check(what, wanted, found):
     if wanted != found:
-        raise Wrong(f"{what}: wanted {wanted!r}, found {found!r}")
+        raise Wrong(f"{what}: wanted {wanted!r:.600}, found {found!r:.600}")
 
 
-def message(names, key="k1", days=47):
+def check_each(what, wanted, found):
+    """Two lists are the same; otherwise the first difference is told alone."""
+    for place, (left, right) in enumerate(zip(wanted, found), 1):
+        check(f"{what} {place}", left, right)
+    check(f"{what}: how many", len(wanted), len(found))
+
+
+def message(names, key="k1", days=47, request=REQUEST):
     """The one form of message, with these names."""
     listed = ",".join(f'"{name}"' for name in names)
-    request = base64.b64encode(REQUEST).decode()
-    body = f'{{"common":false,"days":{days},"key":"{key}","names":[{listed}],"request":"{request}"}}'
+    encoded = base64.b64encode(request).decode()
+    body = f'{{"common":false,"days":{days},"key":"{key}","names":[{listed}],"request":"{encoded}"}}'
     head = f"POST /orders HTTP/1.1\r\nhost: gate\r\nx-gate-key: acme-token\r\ncontent-length: {len(body)}\r\n\r\n"
     return (head + body).encode()
 
@@ -48,10 +55,18 @@ def reply(status, body):
     return (head + body).encode()
 
 
+def placed(number):
+    return reply("200 OK", f'{{"order":{number},"reply":"placed"}}')
+
+
+def key_reused(number):
+    return reply("409 Conflict", f'{{"kept":{number},"reply":"key_reused"}}')
+
+
 ORDER = message(["example.com"])
 OTHER_ORDER = message(["example.com", "www.example.com"])
-PLACED = reply("200 OK", '{"order":2,"reply":"placed"}')
-KEY_REUSED = reply("409 Conflict", '{"kept":2,"reply":"key_reused"}')
+PLACED = placed(2)
+KEY_REUSED = key_reused(2)
 
 
 def run_command(command, sent=b"", folder=None, environment=None, seconds=SECONDS):
@@ -65,8 +80,8 @@ def run_command(command, sent=b"", folder=None, environment=None, seconds=SECOND
         raise Wrong(f"{pathlib.Path(command[0]).name} {words}: it didn't end within {seconds} seconds") from None
 
 
-def run_gate(arguments, sent=b""):
-    return run_command([PROGRAM, *arguments], sent)
+def run_gate(arguments, sent=b"", seconds=SECONDS):
+    return run_command([PROGRAM, *arguments], sent, seconds=seconds)
 
 
 def records_of(written):
@@ -93,10 +108,10 @@ class Gate:
         self.settings = self.folder / "settings"
         self.settings.write_bytes(b"")
 
-    def run(self, *words, sent=b"", signer=SIGNER, journal=None, settings=None):
+    def run(self, *words, sent=b"", signer=SIGNER, journal=None, settings=None, seconds=SECONDS):
         journal = self.journal if journal is None else journal
         settings = self.settings if settings is None else settings
-        return run_gate([str(journal), str(settings), signer, *words], sent)
+        return run_gate([str(journal), str(settings), signer, *words], sent, seconds)
 
     def bytes(self):
         return self.journal.read_bytes() if self.journal.exists() else None

@@ -1,6 +1,8 @@
 //! The program `gate JOURNAL CONF SIGNER WORDS`: begins a journal, or answers a session's messages.
 #![tactic(auto)]
 
+#[cfg(test)]
+mod faults;
 mod opening;
 mod running;
 mod session;

@@ -6,13 +6,13 @@ use std::alloc::Global;
 use std::process::Abort;
 
 /// 2026-09-21T14:13:20Z.
-const MOMENT: u64 = 1_790_000_000;
+pub const MOMENT: u64 = 1_790_000_000;
 
 /// The head, and the record of empty settings at that moment.
-const BEGUN: &[u8] =
+pub const BEGUN: &[u8] =
     b"gate journal 00\n\0\0\0\x17\x01\0\0\0\0\0\0\0\x01\0\0\0\0\x6a\xb1\x3b\x80\0\0\0\0\0\0";
 
-const ORDER: &[u8] =
+pub const ORDER: &[u8] =
     b"POST /orders HTTP/1.1\r\nhost: gate\r\nx-gate-key: acme-token\r\ncontent-length: 234\r\n\r\n\
     {\"common\":false,\"days\":47,\"key\":\"k1\",\"names\":[\"example.com\"],\"request\":\"\
     MHQwYgIBADAAMFkwEwYHKoZIzj0CAQYIKoZIzj0DAQcDQgAEERERERERERERERERERERERERERERERER\
@@ -26,7 +26,7 @@ const OTHER_ORDER: &[u8] =
     EREREREREREREREREREREREREREREREREREREREREREREREREREREaAAMAoGCCqGSM49BAMCAwIAAA==\"}";
 
 /// The record of the order as entry 2 at that moment: what stands in front of its request, and the request.
-const ORDERED: &[u8] = b"\0\0\0\xa4\x02\0\0\0\0\0\0\0\x02\0\0\0\0\x6a\xb1\x3b\x80\
+pub const ORDERED: &[u8] = b"\0\0\0\xa4\x02\0\0\0\0\0\0\0\x02\0\0\0\0\x6a\xb1\x3b\x80\
     \0\x04acme\x02k1\0\0\x2f\x01\x01\0\x0bexample.com\0\x76\
     \x30\x74\x30\x62\x02\x01\0\x30\0\x30\x59\x30\x13\x06\x07\x2a\x86\
     \x48\xce\x3d\x02\x01\x06\x08\x2a\x86\x48\xce\x3d\x03\x01\x07\x03\x42\0\x04\
@@ -35,7 +35,7 @@ const ORDERED: &[u8] = b"\0\0\0\xa4\x02\0\0\0\0\0\0\0\x02\0\0\0\0\x6a\xb1\x3b\x8
     \x11\x11\x11\x11\x11\x11\x11\x11\x11\x11\x11\x11\x11\x11\x11\x11\x11\x11\x11\x11\
     \xa0\0\x30\x0a\x06\x08\x2a\x86\x48\xce\x3d\x04\x03\x02\x03\x02\0\0";
 
-const PLACED: &[u8] =
+pub const PLACED: &[u8] =
     b"HTTP/1.1 200 OK\r\ncontent-type: application/json\r\ncontent-length: 28\r\n\r\n\
     {\"order\":2,\"reply\":\"placed\"}";
 
@@ -62,7 +62,7 @@ fn clock(rt: &impl Abort, alloc: Global) -> ListClock {
     ListClock::new(readings)
 }
 
-fn word_alone(rt: &impl Abort, alloc: Global, word: &str) -> Vec<String> {
+pub fn word_alone(rt: &impl Abort, alloc: Global, word: &str) -> Vec<String> {
     let word = String::from_str(alloc, word).expect(rt, "memory");
     vec![in alloc; word].expect(rt, "memory")
 }
