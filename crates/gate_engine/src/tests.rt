@@ -24,6 +24,9 @@ const BEGUN: u64 = 1_790_000_000;
 const BEGUN_DISK: &[u8] =
     b"gate journal 00\n\0\0\0\x17\x01\0\0\0\0\0\0\0\x01\0\0\0\0\x6a\xb1\x3b\x80\0\0\0\0\0\0";
 
+/// The greatest length of a journal.
+const MOST_BYTES: u64 = 67_108_864;
+
 // A reply is a pair: its kind, and the number that it gives or 0.
 const PLACED: u8 = 1;
 
@@ -35,6 +38,8 @@ const CLOCK_FAULT: u8 = 4;
 
 const DISK_FAULT: u8 = 5;
 
+const FULL: u8 = 6;
+
 fn pair_of(reply: Reply) -> (u8, u64) {
     match reply {
         Reply::Placed { order } => (PLACED, order),
@@ -42,7 +47,7 @@ fn pair_of(reply: Reply) -> (u8, u64) {
         Reply::ClockRange { reading } => (CLOCK_RANGE, reading),
         Reply::ClockFault => (CLOCK_FAULT, 0),
         Reply::DiskFault => (DISK_FAULT, 0),
-        Reply::Full => (6, 0),
+        Reply::Full => (FULL, 0),
         Reply::JournalBad { at } => (7, at),
         Reply::NoMemory => (8, 0),
     }
@@ -206,21 +211,22 @@ fn clock(rt: &impl Abort, alloc: Global, readings: &[Option<u64>]) -> ListClock 
 }
 
 /// An empty disk, of which the calls with these numbers fail.
-fn empty_plant(rt: &impl Abort, alloc: Global, fails: &[(u64, Fail)]) -> MemoryPlant {
-    let fails = Sequence::from_slice(alloc, fails).expect(rt, "memory");
+fn empty_plant(rt: &impl Abort, alloc: Global, calls: &[u64]) -> MemoryPlant {
+    let mut fails = Sequence::new(alloc);
+    for call in calls {
+        fails.push((*call, Fail::Disk)).expect(rt, "memory");
+    }
     MemoryPlant::new(alloc, Bytes::new(alloc), Bytes::new(alloc), fails)
 }
 
-/// A gate over a journal that was begun.
-fn begun_gate(
+/// A gate over the journal that the disk holds.
+fn gate_over(
     rt: &impl Abort,
     alloc: Global,
-    fails: &[(u64, Fail)],
+    mut plant: MemoryPlant,
     readings: &[Option<u64>],
 ) -> Gate {
-    let mut plant = empty_plant(rt, alloc, fails);
     let mut clock = clock(rt, alloc, readings);
-    begin(alloc, &mut plant, Moment(BEGUN)).expect(rt, "a journal");
     let engine = Engine::start(alloc, &mut plant, &mut clock, &[]).expect(rt, "an engine");
     Gate {
         engine,
@@ -228,6 +234,13 @@ fn begun_gate(
         clock,
         entropy: ListEntropy::new(Sequence::new(alloc)),
     }
+}
+
+/// A gate over a journal that was begun.
+fn begun_gate(rt: &impl Abort, alloc: Global, fails: &[u64], readings: &[Option<u64>]) -> Gate {
+    let mut plant = empty_plant(rt, alloc, fails);
+    begin(alloc, &mut plant, Moment(BEGUN)).expect(rt, "a journal");
+    gate_over(rt, alloc, plant, readings)
 }
 
 // ---- the same as a list
@@ -242,14 +255,16 @@ struct Row {
     content: u8,
 }
 
-/// The orders that the disk holds, and what the outside will do.
+/// The orders that the disk holds behind so many entries, its size, and what the outside will do.
 #[derive(Drop)]
 struct Rows<'a> {
+    before: u64,
     rows: Vec<Row>,
+    size: u64,
     /// Whether a commit failed since the disk was last read.
     loose: bool,
     calls: u64,
-    fails: &'a [(u64, Fail)],
+    fails: &'a [u64],
     readings: &'a [Option<u64>],
     read: usize,
 }
@@ -258,7 +273,7 @@ impl Rows<'_> {
     /// Whether the next call of the disk fails.
     fn next_call_fails(&mut self) -> bool {
         self.calls = self.calls.saturating_add(1);
-        for (call, _) in self.fails {
+        for call in self.fails {
             if *call == self.calls {
                 return true;
             }
@@ -300,7 +315,7 @@ impl Rows<'_> {
 
     /// The number and the moment of the next order.
     fn next_row(&self, reading: u64) -> (u64, u64) {
-        let mut number = 2u64;
+        let mut number = self.before.saturating_add(1);
         let mut moment = BEGUN;
         for row in self.rows.as_slice() {
             number = number.saturating_add(1);
@@ -313,12 +328,21 @@ impl Rows<'_> {
     }
 
     /// Writes an order and syncs it. A write that fails writes nothing; behind a sync that fails the order stands.
-    fn place(&mut self, rt: &impl Abort, row: Row) -> (u8, u64) {
+    fn place(&mut self, rt: &impl Abort, alloc: Global, row: Row) -> (u8, u64) {
+        let payload = payload(rt, alloc, row);
+        let size = self
+            .size
+            .saturating_add(4)
+            .saturating_add(payload.len() as u64);
+        if MOST_BYTES < size {
+            return (FULL, 0);
+        }
         self.loose = true;
         if self.next_call_fails() {
             return (DISK_FAULT, 0);
         }
         self.rows.push(row).expect(rt, "memory");
+        self.size = size;
         if self.next_call_fails() {
             return (DISK_FAULT, 0);
         }
@@ -326,7 +350,14 @@ impl Rows<'_> {
         (PLACED, row.number)
     }
 
-    fn answer(&mut self, rt: &impl Abort, caller: u8, key: u8, content: u8) -> (u8, u64) {
+    fn answer(
+        &mut self,
+        rt: &impl Abort,
+        alloc: Global,
+        caller: u8,
+        key: u8,
+        content: u8,
+    ) -> (u8, u64) {
         if self.loose && !self.is_read_again() {
             return (DISK_FAULT, 0);
         }
@@ -348,7 +379,7 @@ impl Rows<'_> {
                     key,
                     content,
                 };
-                self.place(rt, row)
+                self.place(rt, alloc, row)
             }
         }
     }
@@ -383,9 +414,9 @@ fn payload(rt: &impl Abort, alloc: Global, row: Row) -> Vec<u8> {
     out
 }
 
-/// The disk that holds these orders.
-fn disk_of(rt: &impl Abort, alloc: Global, rows: &[Row]) -> Vec<u8> {
-    let mut out = BEGUN_DISK.to_vec(alloc).expect(rt, "memory");
+/// The records of these orders.
+fn records(rt: &impl Abort, alloc: Global, rows: &[Row]) -> Vec<u8> {
+    let mut out = Vec::new(alloc);
     for row in rows {
         let payload = payload(rt, alloc, *row);
         put(rt, &mut out, &[0, 0, 0]);
@@ -479,21 +510,13 @@ const READINGS: &[Option<u64>] = &[
 ];
 
 /// The calls of the disk that fail. Three begin the journal, and four read it.
-const FAILS: &[(u64, Fail)] = &[
-    (14, Fail::Disk),
-    (15, Fail::Disk),
-    (17, Fail::Disk),
-    (20, Fail::Disk),
-    (24, Fail::Disk),
-    (32, Fail::Disk),
-    (38, Fail::Disk),
-    (43, Fail::Disk),
-    (55, Fail::Disk),
-];
+const FAILS: &[u64] = &[14, 15, 17, 20, 24, 32, 38, 43, 55];
 
 fn begun_rows(alloc: Global) -> Rows<'static> {
     Rows {
+        before: 1,
         rows: Vec::new(alloc),
+        size: 43,
         loose: false,
         calls: 7,
         fails: FAILS,
@@ -502,14 +525,18 @@ fn begun_rows(alloc: Global) -> Rows<'static> {
     }
 }
 
-/// An engine that starts from the disk counts the settings and these orders, and the disk spells them.
-fn stands(rt: &impl Abort, alloc: Global, plant: &mut MemoryPlant, rows: &[Row]) {
-    let disk = disk_of(rt, alloc, rows);
-    assert_eq!(rt; plant.disk(), disk.as_slice());
+/// From this place on the disk holds these orders.
+fn holds(rt: &impl Abort, alloc: Global, plant: &MemoryPlant, at: usize, rows: &Rows<'_>) {
+    let records = records(rt, alloc, &rows.rows);
+    assert_eq!(rt; plant.disk().get(at..), Some(records.as_slice()));
+    assert_eq!(rt; plant.disk().len() as u64, rows.size);
     assert_eq!(rt; plant.short(), 0);
+}
+
+/// How many entries an engine has that starts from the disk; 0 where none starts.
+fn count_again(rt: &impl Abort, alloc: Global, plant: &mut MemoryPlant) -> u64 {
     let mut clock = clock(rt, alloc, &[]);
-    let engine = Engine::start(alloc, plant, &mut clock, &[]).expect(rt, "an engine");
-    assert_eq!(rt; engine.count(), (rows.len() as u64).saturating_add(1));
+    Engine::start(alloc, plant, &mut clock, &[]).map_or(0, |engine| engine.count())
 }
 
 #[test]
@@ -518,14 +545,91 @@ fn a_table_of_commands_is_answered_as_by_a_list(rt: HostRuntime) {
     let mut gate = begun_gate(&rt, alloc, FAILS, READINGS);
     let mut rows = begun_rows(alloc);
     for (caller, key, content, want) in COMMANDS {
-        let listed = rows.answer(&rt, caller, key, content);
+        let listed = rows.answer(&rt, alloc, caller, key, content);
         assert_eq!(rt; listed, want, "{caller} {key} {content} in the list");
         let asked = ask(&rt, alloc, &mut gate, caller, key, content);
         assert_eq!(rt; asked, want, "{caller} {key} {content}");
     }
     assert_eq!(rt; rows.rows.len(), 10);
     assert_eq!(rt; gate.engine.count(), 11);
-    stands(&rt, alloc, &mut gate.plant, &rows.rows);
+    assert_eq!(rt; gate.plant.disk().get(..43), Some(BEGUN_DISK));
+    holds(&rt, alloc, &gate.plant, 43, &rows);
+    assert_eq!(rt; count_again(&rt, alloc, &mut gate.plant), 11);
+}
+
+// ---- a journal that fills up
+
+/// Caller, key and content of each command where 100 bytes are left, and its reply.
+const LAST_COMMANDS: [(u8, u8, u8, (u8, u64)); 8] = [
+    // 51 bytes, and then one more than are left
+    (0, 0, 0, (PLACED, 1121)),
+    (1, 0, 0, (FULL, 0)),
+    (0, 0, 0, (PLACED, 1121)),
+    (0, 0, 1, (KEY_REUSED, 1121)),
+    // as many as are left
+    (3, 1, 0, (PLACED, 1122)),
+    (3, 2, 0, (FULL, 0)),
+    (3, 1, 0, (PLACED, 1122)),
+    (3, 1, 4, (KEY_REUSED, 1122)),
+];
+
+/// An order with a long request, under its number as the key. Its record takes 42 bytes more than the request.
+fn put_long_order(rt: &impl Abort, out: &mut Vec<u8>, number: u64, request: &[u8]) {
+    let size = u16::try_from(request.len()).expect(rt, "a request");
+    let behind_length = size.checked_add(38).expect(rt, "a record");
+    put(rt, out, &[0, 0]);
+    put(rt, out, &behind_length.to_be_bytes());
+    put(rt, out, &[2]);
+    put(rt, out, &number.to_be_bytes());
+    put(rt, out, &BEGUN.to_be_bytes());
+    put(rt, out, b"\0\x04acme\x08");
+    put(rt, out, &number.to_le_bytes());
+    put(rt, out, &[0, 0, 47, 0]);
+    put(rt, out, &size.to_be_bytes());
+    put(rt, out, request);
+}
+
+/// A disk with 1120 entries, on which 100 bytes are left.
+fn nearly_full_disk(rt: &impl Abort, alloc: Global) -> Bytes {
+    let mut out = BEGUN_DISK.to_vec(alloc).expect(rt, "memory");
+    let mut request = Vec::new(alloc);
+    request.resize(59_958, 0).expect(rt, "memory");
+    for number in 2..1120 {
+        put_long_order(rt, &mut out, number, &request);
+    }
+    request.truncate(28_679);
+    put_long_order(rt, &mut out, 1120, &request);
+    Bytes::from_vec(out)
+}
+
+fn nearly_full_rows(alloc: Global) -> Rows<'static> {
+    Rows {
+        before: 1120,
+        rows: Vec::new(alloc),
+        size: MOST_BYTES - 100,
+        loose: false,
+        calls: 4,
+        fails: &[],
+        readings: &[Some(BEGUN)],
+        read: 0,
+    }
+}
+
+#[test]
+fn a_journal_fills_up_to_its_last_byte(rt: HostRuntime) {
+    let alloc = rt.alloc();
+    let disk = nearly_full_disk(&rt, alloc);
+    let plant = MemoryPlant::new(alloc, disk, Bytes::new(alloc), Sequence::new(alloc));
+    let mut gate = gate_over(&rt, alloc, plant, &[Some(BEGUN)]);
+    let mut rows = nearly_full_rows(alloc);
+    for (caller, key, content, want) in LAST_COMMANDS {
+        let listed = rows.answer(&rt, alloc, caller, key, content);
+        assert_eq!(rt; listed, want, "{caller} {key} {content} in the list");
+        let asked = ask(&rt, alloc, &mut gate, caller, key, content);
+        assert_eq!(rt; asked, want, "{caller} {key} {content}");
+    }
+    assert_eq!(rt; gate.engine.count(), 1122);
+    holds(&rt, alloc, &gate.plant, 67_108_764, &rows);
 }
 
 // ---- payloads that are no legal history
@@ -682,5 +786,17 @@ fn a_torn_second_record_is_told(rt: HostRuntime) {
         put(&rt, &mut disk, tail);
         let fault = fault_of_bytes(&rt, rt.alloc(), &disk);
         assert_eq!(rt; fault, bad_at(43), "{tail:?}");
+    }
+}
+
+#[test]
+fn a_disk_that_is_too_long_is_told(rt: HostRuntime) {
+    let mut disk = b"gate journal 00\n"
+        .to_vec(rt.alloc())
+        .expect(&rt, "memory");
+    for (size, at) in [(67_108_864, 16), (67_108_865, 67_108_864)] {
+        disk.resize(size, 0).expect(&rt, "memory");
+        let fault = fault_of_bytes(&rt, rt.alloc(), &disk);
+        assert_eq!(rt; fault, bad_at(at), "{size} bytes");
     }
 }
