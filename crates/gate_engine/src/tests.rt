@@ -193,14 +193,9 @@ fn caller(rt: &impl Abort, alloc: Global, caller: u8) -> Caller
     }
 }
 
-fn ask(
-    rt: &impl Abort,
-    alloc: Global,
-    gate: &mut Gate,
-    asker: u8,
-    key: u8,
-    content: u8,
-) -> (u8, u64) {
+/// The reply to a command, given by the numbers of its caller, key and content.
+fn ask(rt: &impl Abort, alloc: Global, gate: &mut Gate, asked: (u8, u8, u8)) -> (u8, u64) {
+    let (asker, key, content) = asked;
     let asker = caller(rt, alloc, asker);
     let asked = command(rt, alloc, key, content_of(content));
     pair_of(gate.ask(&asker, &asked))
@@ -350,14 +345,8 @@ impl Rows<'_> {
         (PLACED, row.number)
     }
 
-    fn answer(
-        &mut self,
-        rt: &impl Abort,
-        alloc: Global,
-        caller: u8,
-        key: u8,
-        content: u8,
-    ) -> (u8, u64) {
+    fn answer(&mut self, rt: &impl Abort, alloc: Global, asked: (u8, u8, u8)) -> (u8, u64) {
+        let (caller, key, content) = asked;
         if self.loose && !self.is_read_again() {
             return (DISK_FAULT, 0);
         }
@@ -428,51 +417,51 @@ fn records(rt: &impl Abort, alloc: Global, rows: &[Row]) -> Vec<u8> {
 // ---- the table
 
 /// Caller, key and content of each command, and its reply.
-const COMMANDS: [(u8, u8, u8, (u8, u64)); 36] = [
-    (0, 0, 0, (CLOCK_FAULT, 0)),
-    (0, 0, 0, (CLOCK_RANGE, FIRST - 1)),
-    (0, 0, 0, (CLOCK_RANGE, LAST + 1)),
-    (0, 0, 0, (CLOCK_RANGE, 0)),
-    (0, 0, 0, (CLOCK_RANGE, u64::MAX)),
+const COMMANDS: [((u8, u8, u8), (u8, u64)); 36] = [
+    ((0, 0, 0), (CLOCK_FAULT, 0)),
+    ((0, 0, 0), (CLOCK_RANGE, FIRST - 1)),
+    ((0, 0, 0), (CLOCK_RANGE, LAST + 1)),
+    ((0, 0, 0), (CLOCK_RANGE, 0)),
+    ((0, 0, 0), (CLOCK_RANGE, u64::MAX)),
     // before the settings' moment
-    (0, 0, 0, (PLACED, 2)),
-    (0, 0, 0, (PLACED, 2)),
-    (0, 0, 1, (KEY_REUSED, 2)),
-    (0, 0, 2, (KEY_REUSED, 2)),
-    (0, 0, 3, (KEY_REUSED, 2)),
-    (0, 0, 4, (KEY_REUSED, 2)),
+    ((0, 0, 0), (PLACED, 2)),
+    ((0, 0, 0), (PLACED, 2)),
+    ((0, 0, 1), (KEY_REUSED, 2)),
+    ((0, 0, 2), (KEY_REUSED, 2)),
+    ((0, 0, 3), (KEY_REUSED, 2)),
+    ((0, 0, 4), (KEY_REUSED, 2)),
     // another caller, with the same key and with one that makes the same text
-    (1, 0, 0, (PLACED, 3)),
-    (1, 3, 0, (PLACED, 4)),
-    (1, 0, 1, (KEY_REUSED, 3)),
-    (0, 0, 0, (PLACED, 2)),
+    ((1, 0, 0), (PLACED, 3)),
+    ((1, 3, 0), (PLACED, 4)),
+    ((1, 0, 1), (KEY_REUSED, 3)),
+    ((0, 0, 0), (PLACED, 2)),
     // the write fails, then each of the four calls that read the disk again
-    (0, 1, 0, (DISK_FAULT, 0)),
-    (0, 1, 0, (DISK_FAULT, 0)),
-    (0, 0, 0, (DISK_FAULT, 0)),
-    (0, 0, 1, (DISK_FAULT, 0)),
-    (1, 1, 0, (DISK_FAULT, 0)),
-    (0, 1, 0, (PLACED, 5)),
+    ((0, 1, 0), (DISK_FAULT, 0)),
+    ((0, 1, 0), (DISK_FAULT, 0)),
+    ((0, 0, 0), (DISK_FAULT, 0)),
+    ((0, 0, 1), (DISK_FAULT, 0)),
+    ((1, 1, 0), (DISK_FAULT, 0)),
+    ((0, 1, 0), (PLACED, 5)),
     // the sync fails: the order comes back
-    (2, 2, 0, (DISK_FAULT, 0)),
-    (2, 2, 0, (PLACED, 6)),
-    (2, 2, 1, (KEY_REUSED, 6)),
+    ((2, 2, 0), (DISK_FAULT, 0)),
+    ((2, 2, 0), (PLACED, 6)),
+    ((2, 2, 1), (KEY_REUSED, 6)),
     // the same, and the clock fails when it is back
-    (0, 4, 0, (DISK_FAULT, 0)),
-    (0, 0, 0, (CLOCK_FAULT, 0)),
-    (0, 4, 1, (KEY_REUSED, 7)),
+    ((0, 4, 0), (DISK_FAULT, 0)),
+    ((0, 0, 0), (CLOCK_FAULT, 0)),
+    ((0, 4, 1), (KEY_REUSED, 7)),
     // the write fails, and another order takes the number
-    (3, 0, 0, (DISK_FAULT, 0)),
-    (3, 1, 0, (PLACED, 8)),
+    ((3, 0, 0), (DISK_FAULT, 0)),
+    ((3, 1, 0), (PLACED, 8)),
     // the last moment, and readings below it
-    (3, 0, 4, (PLACED, 9)),
-    (3, 0, 4, (PLACED, 9)),
-    (3, 2, 0, (PLACED, 10)),
-    (2, 0, 3, (CLOCK_RANGE, LAST + 1)),
+    ((3, 0, 4), (PLACED, 9)),
+    ((3, 0, 4), (PLACED, 9)),
+    ((3, 2, 0), (PLACED, 10)),
+    ((2, 0, 3), (CLOCK_RANGE, LAST + 1)),
     // the sync fails, and another order finds the key taken
-    (2, 0, 3, (DISK_FAULT, 0)),
-    (2, 0, 2, (KEY_REUSED, 11)),
-    (2, 0, 3, (PLACED, 11)),
+    ((2, 0, 3), (DISK_FAULT, 0)),
+    ((2, 0, 2), (KEY_REUSED, 11)),
+    ((2, 0, 3), (PLACED, 11)),
 ];
 
 /// What the clock gives to the commands that come so far.
@@ -533,10 +522,11 @@ fn holds(rt: &impl Abort, alloc: Global, plant: &MemoryPlant, at: usize, rows: &
     assert_eq!(rt; plant.short(), 0);
 }
 
-/// How many entries an engine has that starts from the disk; 0 where none starts.
+/// How many entries an engine has that starts from the disk.
 fn count_again(rt: &impl Abort, alloc: Global, plant: &mut MemoryPlant) -> u64 {
     let mut clock = clock(rt, alloc, &[]);
-    Engine::start(alloc, plant, &mut clock, &[]).map_or(0, |engine| engine.count())
+    let engine = Engine::start(alloc, plant, &mut clock, &[]).expect(rt, "an engine");
+    engine.count()
 }
 
 #[test]
@@ -544,11 +534,13 @@ fn a_table_of_commands_is_answered_as_by_a_list(rt: HostRuntime) {
     let alloc = rt.alloc();
     let mut gate = begun_gate(&rt, alloc, FAILS, READINGS);
     let mut rows = begun_rows(alloc);
-    for (caller, key, content, want) in COMMANDS {
-        let listed = rows.answer(&rt, alloc, caller, key, content);
-        assert_eq!(rt; listed, want, "{caller} {key} {content} in the list");
-        let asked = ask(&rt, alloc, &mut gate, caller, key, content);
-        assert_eq!(rt; asked, want, "{caller} {key} {content}");
+    for (asked, want) in COMMANDS {
+        assert_eq!(rt;
+            rows.answer(&rt, alloc, asked),
+            want,
+            "{asked:?} in the list"
+        );
+        assert_eq!(rt; ask(&rt, alloc, &mut gate, asked), want, "{asked:?}");
     }
     assert_eq!(rt; rows.rows.len(), 10);
     assert_eq!(rt; gate.engine.count(), 11);
@@ -560,17 +552,17 @@ fn a_table_of_commands_is_answered_as_by_a_list(rt: HostRuntime) {
 // ---- a journal that fills up
 
 /// Caller, key and content of each command where 100 bytes are left, and its reply.
-const LAST_COMMANDS: [(u8, u8, u8, (u8, u64)); 8] = [
+const LAST_COMMANDS: [((u8, u8, u8), (u8, u64)); 8] = [
     // 51 bytes, and then one more than are left
-    (0, 0, 0, (PLACED, 1121)),
-    (1, 0, 0, (FULL, 0)),
-    (0, 0, 0, (PLACED, 1121)),
-    (0, 0, 1, (KEY_REUSED, 1121)),
+    ((0, 0, 0), (PLACED, 1121)),
+    ((1, 0, 0), (FULL, 0)),
+    ((0, 0, 0), (PLACED, 1121)),
+    ((0, 0, 1), (KEY_REUSED, 1121)),
     // as many as are left
-    (3, 1, 0, (PLACED, 1122)),
-    (3, 2, 0, (FULL, 0)),
-    (3, 1, 0, (PLACED, 1122)),
-    (3, 1, 4, (KEY_REUSED, 1122)),
+    ((3, 1, 0), (PLACED, 1122)),
+    ((3, 2, 0), (FULL, 0)),
+    ((3, 1, 0), (PLACED, 1122)),
+    ((3, 1, 4), (KEY_REUSED, 1122)),
 ];
 
 /// An order with a long request, under its number as the key. Its record takes 42 bytes more than the request.
@@ -622,11 +614,13 @@ fn a_journal_fills_up_to_its_last_byte(rt: HostRuntime) {
     let plant = MemoryPlant::new(alloc, disk, Bytes::new(alloc), Sequence::new(alloc));
     let mut gate = gate_over(&rt, alloc, plant, &[Some(BEGUN)]);
     let mut rows = nearly_full_rows(alloc);
-    for (caller, key, content, want) in LAST_COMMANDS {
-        let listed = rows.answer(&rt, alloc, caller, key, content);
-        assert_eq!(rt; listed, want, "{caller} {key} {content} in the list");
-        let asked = ask(&rt, alloc, &mut gate, caller, key, content);
-        assert_eq!(rt; asked, want, "{caller} {key} {content}");
+    for (asked, want) in LAST_COMMANDS {
+        assert_eq!(rt;
+            rows.answer(&rt, alloc, asked),
+            want,
+            "{asked:?} in the list"
+        );
+        assert_eq!(rt; ask(&rt, alloc, &mut gate, asked), want, "{asked:?}");
     }
     assert_eq!(rt; gate.engine.count(), 1122);
     holds(&rt, alloc, &gate.plant, 67_108_764, &rows);
