@@ -27,7 +27,12 @@ const BEGUN_DISK: &[u8] =
 /// The greatest length of a journal.
 const MOST_BYTES: u64 = 67_108_864;
 
-// A reply is a pair: its kind, and the number that it gives or 0.
+/// A command: the numbers of its caller, key and content.
+type Asked = (u8, u8, u8);
+
+/// A reply: its kind, and the number that it gives or 0.
+type Said = (u8, u64);
+
 const PLACED: u8 = 1;
 
 const KEY_REUSED: u8 = 2;
@@ -40,7 +45,7 @@ const DISK_FAULT: u8 = 5;
 
 const FULL: u8 = 6;
 
-fn pair_of(reply: Reply) -> (u8, u64) {
+fn said(reply: Reply) -> Said {
     match reply {
         Reply::Placed { order } => (PLACED, order),
         Reply::KeyReused { kept } => (KEY_REUSED, kept),
@@ -193,12 +198,11 @@ fn caller(rt: &impl Abort, alloc: Global, caller: u8) -> Caller
     }
 }
 
-/// The reply to a command, given by the numbers of its caller, key and content.
-fn ask(rt: &impl Abort, alloc: Global, gate: &mut Gate, asked: (u8, u8, u8)) -> (u8, u64) {
+fn ask(rt: &impl Abort, alloc: Global, gate: &mut Gate, asked: Asked) -> Said {
     let (asker, key, content) = asked;
     let asker = caller(rt, alloc, asker);
     let asked = command(rt, alloc, key, content_of(content));
-    pair_of(gate.ask(&asker, &asked))
+    said(gate.ask(&asker, &asked))
 }
 
 fn clock(rt: &impl Abort, alloc: Global, readings: &[Option<u64>]) -> ListClock {
@@ -229,13 +233,6 @@ fn gate_over(
         clock,
         entropy: ListEntropy::new(Sequence::new(alloc)),
     }
-}
-
-/// A gate over a journal that was begun.
-fn begun_gate(rt: &impl Abort, alloc: Global, fails: &[u64], readings: &[Option<u64>]) -> Gate {
-    let mut plant = empty_plant(rt, alloc, fails);
-    begin(alloc, &mut plant, Moment(BEGUN)).expect(rt, "a journal");
-    gate_over(rt, alloc, plant, readings)
 }
 
 // ---- the same as a list
@@ -323,7 +320,7 @@ impl Rows<'_> {
     }
 
     /// Writes an order and syncs it. A write that fails writes nothing; behind a sync that fails the order stands.
-    fn place(&mut self, rt: &impl Abort, alloc: Global, row: Row) -> (u8, u64) {
+    fn place(&mut self, rt: &impl Abort, alloc: Global, row: Row) -> Said {
         let payload = payload(rt, alloc, row);
         let size = self
             .size
@@ -345,7 +342,7 @@ impl Rows<'_> {
         (PLACED, row.number)
     }
 
-    fn answer(&mut self, rt: &impl Abort, alloc: Global, asked: (u8, u8, u8)) -> (u8, u64) {
+    fn answer(&mut self, rt: &impl Abort, alloc: Global, asked: Asked) -> Said {
         let (caller, key, content) = asked;
         if self.loose && !self.is_read_again() {
             return (DISK_FAULT, 0);
@@ -417,7 +414,7 @@ fn records(rt: &impl Abort, alloc: Global, rows: &[Row]) -> Vec<u8> {
 // ---- the table
 
 /// Caller, key and content of each command, and its reply.
-const COMMANDS: [((u8, u8, u8), (u8, u64)); 36] = [
+const COMMANDS: &[(Asked, Said)] = &[
     ((0, 0, 0), (CLOCK_FAULT, 0)),
     ((0, 0, 0), (CLOCK_RANGE, FIRST - 1)),
     ((0, 0, 0), (CLOCK_RANGE, LAST + 1)),
@@ -514,6 +511,31 @@ fn begun_rows(alloc: Global) -> Rows<'static> {
     }
 }
 
+/// A gate over a journal that was begun, with the outside of the list.
+fn begun_gate(rt: &impl Abort, alloc: Global, rows: &Rows<'_>) -> Gate {
+    let mut plant = empty_plant(rt, alloc, rows.fails);
+    begin(alloc, &mut plant, Moment(BEGUN)).expect(rt, "a journal");
+    gate_over(rt, alloc, plant, rows.readings)
+}
+
+/// The list and the gate answer each command so.
+fn are_answered(
+    rt: &impl Abort,
+    alloc: Global,
+    rows: &mut Rows<'_>,
+    gate: &mut Gate,
+    commands: &[(Asked, Said)],
+) {
+    for (asked, want) in commands {
+        assert_eq!(rt;
+            rows.answer(rt, alloc, *asked),
+            *want,
+            "{asked:?} in the list"
+        );
+        assert_eq!(rt; ask(rt, alloc, gate, *asked), *want, "{asked:?}");
+    }
+}
+
 /// From this place on the disk holds these orders.
 fn holds(rt: &impl Abort, alloc: Global, plant: &MemoryPlant, at: usize, rows: &Rows<'_>) {
     let records = records(rt, alloc, &rows.rows);
@@ -532,16 +554,9 @@ fn count_again(rt: &impl Abort, alloc: Global, plant: &mut MemoryPlant) -> u64 {
 #[test]
 fn a_table_of_commands_is_answered_as_by_a_list(rt: HostRuntime) {
     let alloc = rt.alloc();
-    let mut gate = begun_gate(&rt, alloc, FAILS, READINGS);
     let mut rows = begun_rows(alloc);
-    for (asked, want) in COMMANDS {
-        assert_eq!(rt;
-            rows.answer(&rt, alloc, asked),
-            want,
-            "{asked:?} in the list"
-        );
-        assert_eq!(rt; ask(&rt, alloc, &mut gate, asked), want, "{asked:?}");
-    }
+    let mut gate = begun_gate(&rt, alloc, &rows);
+    are_answered(&rt, alloc, &mut rows, &mut gate, COMMANDS);
     assert_eq!(rt; rows.rows.len(), 10);
     assert_eq!(rt; gate.engine.count(), 11);
     assert_eq!(rt; gate.plant.disk().get(..43), Some(BEGUN_DISK));
@@ -552,7 +567,7 @@ fn a_table_of_commands_is_answered_as_by_a_list(rt: HostRuntime) {
 // ---- a journal that fills up
 
 /// Caller, key and content of each command where 100 bytes are left, and its reply.
-const LAST_COMMANDS: [((u8, u8, u8), (u8, u64)); 8] = [
+const LAST_COMMANDS: &[(Asked, Said)] = &[
     // 51 bytes, and then one more than are left
     ((0, 0, 0), (PLACED, 1121)),
     ((1, 0, 0), (FULL, 0)),
@@ -594,6 +609,12 @@ fn nearly_full_disk(rt: &impl Abort, alloc: Global) -> Bytes {
     Bytes::from_vec(out)
 }
 
+fn nearly_full_gate(rt: &impl Abort, alloc: Global, readings: &[Option<u64>]) -> Gate {
+    let disk = nearly_full_disk(rt, alloc);
+    let plant = MemoryPlant::new(alloc, disk, Bytes::new(alloc), Sequence::new(alloc));
+    gate_over(rt, alloc, plant, readings)
+}
+
 fn nearly_full_rows(alloc: Global) -> Rows<'static> {
     Rows {
         before: 1120,
@@ -610,18 +631,9 @@ fn nearly_full_rows(alloc: Global) -> Rows<'static> {
 #[test]
 fn a_journal_fills_up_to_its_last_byte(rt: HostRuntime) {
     let alloc = rt.alloc();
-    let disk = nearly_full_disk(&rt, alloc);
-    let plant = MemoryPlant::new(alloc, disk, Bytes::new(alloc), Sequence::new(alloc));
-    let mut gate = gate_over(&rt, alloc, plant, &[Some(BEGUN)]);
     let mut rows = nearly_full_rows(alloc);
-    for (asked, want) in LAST_COMMANDS {
-        assert_eq!(rt;
-            rows.answer(&rt, alloc, asked),
-            want,
-            "{asked:?} in the list"
-        );
-        assert_eq!(rt; ask(&rt, alloc, &mut gate, asked), want, "{asked:?}");
-    }
+    let mut gate = nearly_full_gate(&rt, alloc, rows.readings);
+    are_answered(&rt, alloc, &mut rows, &mut gate, LAST_COMMANDS);
     assert_eq!(rt; gate.engine.count(), 1122);
     holds(&rt, alloc, &gate.plant, 67_108_764, &rows);
 }
