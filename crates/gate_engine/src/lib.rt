@@ -14,3 +14,6 @@ pub use beginning::begin;
 pub use engine::Engine;
 pub use fault::StartFault;
 pub use law::one_history;
+
+#[cfg(test)]
+mod tests;

@@ -1,0 +1,808 @@
+//! A table of commands, answered by an engine and by a list.
+ghost use Rattle.std.specs.Prelude.{◌≡◌, ◌<◌, ◌≤◌, ◌^◌, length};
+ghost use Rattle.gate_entries.specs.Spelling.{IsTarget, AreTargets};
+ghost use Rattle.gate_entries.specs.Command.{IsCommand, IsCaller};
+
+use super::*;
+use gate_base::{Bytes, Moment, Role, Sequence, Target, Targets};
+use gate_entries::{Caller, Command, Reply, read_name_text};
+use journal_core::{Journal, MAX_PAYLOAD};
+use plant::{Fail, ListClock, ListEntropy, MemoryPlant};
+use std::alloc::Global;
+use std::marker::Model;
+use std::process::Abort;
+
+/// 2025-09-15T00:00:00Z and 2099-12-31T23:59:59Z.
+const FIRST: u64 = 1_757_894_400;
+
+const LAST: u64 = 4_102_444_799;
+
+/// 2026-09-21T14:13:20Z, when the journal began.
+const BEGUN: u64 = 1_790_000_000;
+
+/// The head, and the record of empty settings at that moment.
+const BEGUN_DISK: &[u8] =
+    b"gate journal 00\n\0\0\0\x17\x01\0\0\0\0\0\0\0\x01\0\0\0\0\x6a\xb1\x3b\x80\0\0\0\0\0\0";
+
+/// The greatest length of a journal.
+const MOST_BYTES: u64 = 67_108_864;
+
+/// A command: the numbers of its caller, key and content.
+type Asked = (u8, u8, u8);
+
+/// A reply: its kind, and the number that it gives or 0.
+type Said = (u8, u64);
+
+const PLACED: u8 = 1;
+
+const KEY_REUSED: u8 = 2;
+
+const CLOCK_RANGE: u8 = 3;
+
+const CLOCK_FAULT: u8 = 4;
+
+const DISK_FAULT: u8 = 5;
+
+const FULL: u8 = 6;
+
+fn said(reply: Reply) -> Said {
+    match reply {
+        Reply::Placed { order } => (PLACED, order),
+        Reply::KeyReused { kept } => (KEY_REUSED, kept),
+        Reply::ClockRange { reading } => (CLOCK_RANGE, reading),
+        Reply::ClockFault => (CLOCK_FAULT, 0),
+        Reply::DiskFault => (DISK_FAULT, 0),
+        Reply::Full => (FULL, 0),
+        Reply::JournalBad { at } => (7, at),
+        Reply::NoMemory => (8, 0),
+    }
+}
+
+// ---- what a command's numbers stand for
+
+/// A caller's id. With the keys below, two of them make one text with another key.
+fn id_of(caller: u8) -> &'static [u8]
+    ensures { length result.now ≤ 64 }
+{
+    match caller {
+        0 => b"acme",
+        1 => b"acm",
+        2 => b"0123456789abcdef0123456789abcdef0123456789abcdef0123456789abcdef",
+        _ => b"a",
+    }
+}
+
+fn key_of(key: u8) -> &'static [u8]
+    ensures { length result.now < 2 ^ 8 }
+{
+    match key {
+        0 => b"k1",
+        1 => b"k10",
+        2 => b"",
+        3 => b"ek1",
+        _ => b"0123456789abcdef0123456789abcdef0123456789abcdef0123456789abcdef",
+    }
+}
+
+/// What is ordered. Each differs from the first in one field.
+#[derive(Clone, Copy)]
+struct Content {
+    days: u16,
+    common: bool,
+    name: &'static [u8],
+    request: u8,
+}
+
+fn content_of(content: u8) -> Content {
+    let first = Content {
+        days: 47,
+        common: false,
+        name: b"example.com",
+        request: 0x30,
+    };
+    match content {
+        0 => first,
+        1 => Content { days: 0, ..first },
+        2 => Content {
+            common: true,
+            ..first
+        },
+        3 => Content {
+            name: b"www.example.com",
+            ..first
+        },
+        _ => Content {
+            request: 0x31,
+            ..first
+        },
+    }
+}
+
+// ---- an engine
+
+/// An engine with the outside that it stands for.
+#[derive(Drop)]
+struct Gate {
+    engine: Engine,
+    plant: MemoryPlant,
+    clock: ListClock,
+    entropy: ListEntropy,
+}
+
+impl Model for Gate {
+    ghost use Rattle.gate_machine.specs.Step.{Held};
+    ghost use Rattle.plant.specs.Memory.{plant_told};
+    ghost use Rattle.gate_engine.specs.Engine.{StandsForPlant};
+
+    ghost Value = { Held };
+
+    ghost view = { λ g. g.engine };
+
+    ghost invariant = { λ g. StandsForPlant g.engine (plant_told g.plant) };
+}
+
+impl Gate {
+    fn ask(&mut self, caller: &Caller, command: &Command) -> Reply
+        requires caller { IsCaller caller.now }
+        requires command { IsCommand command.now }
+    {
+        self.engine.ask(
+            &mut self.plant,
+            &mut self.clock,
+            &mut self.entropy,
+            caller,
+            command,
+        )
+    }
+}
+
+fn bytes(rt: &impl Abort, alloc: Global, text: &[u8]) -> Bytes
+    ensures { result ≡ text.now }
+{
+    Bytes::from_slice(alloc, text).expect(rt, "memory")
+}
+
+fn target(rt: &impl Abort, alloc: Global, text: &[u8]) -> Target
+    ensures { IsTarget result }
+{
+    let read = read_name_text(alloc, false, text).expect(rt, "memory");
+    Target::Dns(read.expect(rt, "a name"))
+}
+
+fn one_target(rt: &impl Abort, alloc: Global, text: &[u8]) -> Targets
+    ensures { AreTargets result }
+{
+    let mut targets = Targets::new(alloc);
+    targets.push(target(rt, alloc, text)).expect(rt, "memory");
+    targets
+}
+
+fn command(rt: &impl Abort, alloc: Global, key: u8, content: Content) -> Command
+    ensures { IsCommand result }
+{
+    Command::Order {
+        key: bytes(rt, alloc, key_of(key)),
+        targets: one_target(rt, alloc, content.name),
+        days: content.days,
+        common: content.common,
+        request: bytes(rt, alloc, &[content.request]),
+    }
+}
+
+fn caller(rt: &impl Abort, alloc: Global, caller: u8) -> Caller
+    ensures { IsCaller result }
+{
+    Caller {
+        id: bytes(rt, alloc, id_of(caller)),
+        role: Role::Account,
+    }
+}
+
+fn ask(rt: &impl Abort, alloc: Global, gate: &mut Gate, asked: Asked) -> Said {
+    let (asker, key, content) = asked;
+    let asker = caller(rt, alloc, asker);
+    let asked = command(rt, alloc, key, content_of(content));
+    said(gate.ask(&asker, &asked))
+}
+
+fn clock(rt: &impl Abort, alloc: Global, readings: &[Option<u64>]) -> ListClock {
+    ListClock::new(Sequence::from_slice(alloc, readings).expect(rt, "memory"))
+}
+
+/// An empty disk, of which the calls with these numbers fail.
+fn empty_plant(rt: &impl Abort, alloc: Global, calls: &[u64]) -> MemoryPlant {
+    let mut fails = Sequence::new(alloc);
+    for call in calls {
+        fails.push((*call, Fail::Disk)).expect(rt, "memory");
+    }
+    MemoryPlant::new(alloc, Bytes::new(alloc), Bytes::new(alloc), fails)
+}
+
+/// A gate over the journal that the disk holds.
+fn gate_over(
+    rt: &impl Abort,
+    alloc: Global,
+    mut plant: MemoryPlant,
+    readings: &[Option<u64>],
+) -> Gate {
+    let mut clock = clock(rt, alloc, readings);
+    let engine = Engine::start(alloc, &mut plant, &mut clock, &[]).expect(rt, "an engine");
+    Gate {
+        engine,
+        plant,
+        clock,
+        entropy: ListEntropy::new(Sequence::new(alloc)),
+    }
+}
+
+// ---- the same as a list
+
+/// An order that was placed.
+#[derive(Clone, Copy)]
+struct Row {
+    number: u64,
+    moment: u64,
+    caller: u8,
+    key: u8,
+    content: u8,
+}
+
+/// The orders that the disk holds behind so many entries, its size, and what the outside will do.
+#[derive(Drop)]
+struct Rows<'a> {
+    before: u64,
+    rows: Vec<Row>,
+    size: u64,
+    /// Whether a commit failed since the disk was last read.
+    loose: bool,
+    calls: u64,
+    fails: &'a [u64],
+    readings: &'a [Option<u64>],
+    read: usize,
+}
+
+impl Rows<'_> {
+    /// Whether the next call of the disk fails.
+    fn next_call_fails(&mut self) -> bool {
+        self.calls = self.calls.saturating_add(1);
+        for call in self.fails {
+            if *call == self.calls {
+                return true;
+            }
+        }
+        false
+    }
+
+    /// The next reading; the last one stays.
+    fn next_reading(&mut self) -> Option<u64> {
+        let reading = match self.readings.get(self.read) {
+            Some(reading) => *reading,
+            None => None,
+        };
+        if self.read.saturating_add(1) < self.readings.len() {
+            self.read = self.read.saturating_add(1);
+        }
+        reading
+    }
+
+    /// Whether the disk was read again: it is synced, measured, and read in two pieces.
+    fn is_read_again(&mut self) -> bool {
+        for _ in 0..4 {
+            if self.next_call_fails() {
+                return false;
+            }
+        }
+        self.loose = false;
+        true
+    }
+
+    fn row_under(&self, caller: u8, key: u8) -> Option<Row> {
+        for row in self.rows.as_slice() {
+            if row.caller == caller && row.key == key {
+                return Some(*row);
+            }
+        }
+        None
+    }
+
+    /// The number and the moment of the next order.
+    fn next_row(&self, reading: u64) -> (u64, u64) {
+        let mut number = self.before.saturating_add(1);
+        let mut moment = BEGUN;
+        for row in self.rows.as_slice() {
+            number = number.saturating_add(1);
+            moment = row.moment;
+        }
+        if moment < reading {
+            moment = reading;
+        }
+        (number, moment)
+    }
+
+    /// Writes an order and syncs it. A write that fails writes nothing; behind a sync that fails the order stands.
+    fn place(&mut self, rt: &impl Abort, alloc: Global, row: Row) -> Said {
+        let payload = payload(rt, alloc, row);
+        let size = self
+            .size
+            .saturating_add(4)
+            .saturating_add(payload.len() as u64);
+        if MOST_BYTES < size {
+            return (FULL, 0);
+        }
+        self.loose = true;
+        if self.next_call_fails() {
+            return (DISK_FAULT, 0);
+        }
+        self.rows.push(row).expect(rt, "memory");
+        self.size = size;
+        if self.next_call_fails() {
+            return (DISK_FAULT, 0);
+        }
+        self.loose = false;
+        (PLACED, row.number)
+    }
+
+    fn answer(&mut self, rt: &impl Abort, alloc: Global, asked: Asked) -> Said {
+        let (caller, key, content) = asked;
+        if self.loose && !self.is_read_again() {
+            return (DISK_FAULT, 0);
+        }
+        let Some(reading) = self.next_reading() else {
+            return (CLOCK_FAULT, 0);
+        };
+        if reading < FIRST || LAST < reading {
+            return (CLOCK_RANGE, reading);
+        }
+        match self.row_under(caller, key) {
+            Some(row) if row.content == content => (PLACED, row.number),
+            Some(row) => (KEY_REUSED, row.number),
+            None => {
+                let (number, moment) = self.next_row(reading);
+                let row = Row {
+                    number,
+                    moment,
+                    caller,
+                    key,
+                    content,
+                };
+                self.place(rt, alloc, row)
+            }
+        }
+    }
+}
+
+fn put(rt: &impl Abort, out: &mut Vec<u8>, piece: &[u8]) {
+    out.extend_from_slice(piece).expect(rt, "memory");
+}
+
+/// A text behind its length in one byte.
+fn put_counted(rt: &impl Abort, out: &mut Vec<u8>, text: &[u8]) {
+    let size = u8::try_from(text.len()).expect(rt, "a short text");
+    put(rt, out, &[size]);
+    put(rt, out, text);
+}
+
+/// What an order's record holds.
+fn payload(rt: &impl Abort, alloc: Global, row: Row) -> Vec<u8> {
+    let content = content_of(row.content);
+    let mut out = Vec::new(alloc);
+    put(rt, &mut out, &[2]);
+    put(rt, &mut out, &row.number.to_be_bytes());
+    put(rt, &mut out, &row.moment.to_be_bytes());
+    put(rt, &mut out, &[0]);
+    put_counted(rt, &mut out, id_of(row.caller));
+    put_counted(rt, &mut out, key_of(row.key));
+    put(rt, &mut out, &[u8::from(content.common)]);
+    put(rt, &mut out, &content.days.to_be_bytes());
+    put(rt, &mut out, &[1, 1, 0]);
+    put_counted(rt, &mut out, content.name);
+    put(rt, &mut out, &[0, 1, content.request]);
+    out
+}
+
+/// The records of these orders.
+fn records(rt: &impl Abort, alloc: Global, rows: &[Row]) -> Vec<u8> {
+    let mut out = Vec::new(alloc);
+    for row in rows {
+        let payload = payload(rt, alloc, *row);
+        put(rt, &mut out, &[0, 0, 0]);
+        put_counted(rt, &mut out, &payload);
+    }
+    out
+}
+
+// ---- the table
+
+/// Caller, key and content of each command, and its reply.
+const COMMANDS: &[(Asked, Said)] = &[
+    ((0, 0, 0), (CLOCK_FAULT, 0)),
+    ((0, 0, 0), (CLOCK_RANGE, FIRST - 1)),
+    ((0, 0, 0), (CLOCK_RANGE, LAST + 1)),
+    ((0, 0, 0), (CLOCK_RANGE, 0)),
+    ((0, 0, 0), (CLOCK_RANGE, u64::MAX)),
+    // before the settings' moment
+    ((0, 0, 0), (PLACED, 2)),
+    ((0, 0, 0), (PLACED, 2)),
+    ((0, 0, 1), (KEY_REUSED, 2)),
+    ((0, 0, 2), (KEY_REUSED, 2)),
+    ((0, 0, 3), (KEY_REUSED, 2)),
+    ((0, 0, 4), (KEY_REUSED, 2)),
+    // another caller, with the same key and with one that makes the same text
+    ((1, 0, 0), (PLACED, 3)),
+    ((1, 3, 0), (PLACED, 4)),
+    ((1, 0, 1), (KEY_REUSED, 3)),
+    ((0, 0, 0), (PLACED, 2)),
+    // the write fails, then each of the four calls that read the disk again
+    ((0, 1, 0), (DISK_FAULT, 0)),
+    ((0, 1, 0), (DISK_FAULT, 0)),
+    ((0, 0, 0), (DISK_FAULT, 0)),
+    ((0, 0, 1), (DISK_FAULT, 0)),
+    ((1, 1, 0), (DISK_FAULT, 0)),
+    ((0, 1, 0), (PLACED, 5)),
+    // the sync fails: the order comes back
+    ((2, 2, 0), (DISK_FAULT, 0)),
+    ((2, 2, 0), (PLACED, 6)),
+    ((2, 2, 1), (KEY_REUSED, 6)),
+    // the same, and the clock fails when it is back
+    ((0, 4, 0), (DISK_FAULT, 0)),
+    ((0, 0, 0), (CLOCK_FAULT, 0)),
+    ((0, 4, 1), (KEY_REUSED, 7)),
+    // the write fails, and another order takes the number
+    ((3, 0, 0), (DISK_FAULT, 0)),
+    ((3, 1, 0), (PLACED, 8)),
+    // the last moment, and readings below it
+    ((3, 0, 4), (PLACED, 9)),
+    ((3, 0, 4), (PLACED, 9)),
+    ((3, 2, 0), (PLACED, 10)),
+    ((2, 0, 3), (CLOCK_RANGE, LAST + 1)),
+    // the sync fails, and another order finds the key taken
+    ((2, 0, 3), (DISK_FAULT, 0)),
+    ((2, 0, 2), (KEY_REUSED, 11)),
+    ((2, 0, 3), (PLACED, 11)),
+];
+
+/// What the clock gives to the commands that come so far.
+const READINGS: &[Option<u64>] = &[
+    None,
+    Some(FIRST - 1),
+    Some(LAST + 1),
+    Some(0),
+    Some(u64::MAX),
+    Some(FIRST),
+    Some(BEGUN + 10),
+    Some(BEGUN + 10),
+    Some(BEGUN + 10),
+    Some(BEGUN + 10),
+    Some(BEGUN + 10),
+    Some(BEGUN + 10),
+    Some(BEGUN + 5),
+    Some(BEGUN + 10),
+    Some(BEGUN + 10),
+    Some(BEGUN + 15),
+    Some(BEGUN + 20),
+    Some(BEGUN + 25),
+    Some(BEGUN + 30),
+    Some(BEGUN + 30),
+    Some(BEGUN + 40),
+    None,
+    Some(BEGUN + 1),
+    Some(BEGUN + 50),
+    Some(BEGUN + 45),
+    Some(LAST),
+    Some(FIRST),
+    Some(BEGUN),
+    Some(LAST + 1),
+    Some(LAST),
+];
+
+/// The calls of the disk that fail. Three begin the journal, and four read it.
+const FAILS: &[u64] = &[14, 15, 17, 20, 24, 32, 38, 43, 55];
+
+fn begun_rows(alloc: Global) -> Rows<'static> {
+    Rows {
+        before: 1,
+        rows: Vec::new(alloc),
+        size: 43,
+        loose: false,
+        calls: 7,
+        fails: FAILS,
+        readings: READINGS,
+        read: 0,
+    }
+}
+
+/// A gate over a journal that was begun, with the outside of the list.
+fn begun_gate(rt: &impl Abort, alloc: Global, rows: &Rows<'_>) -> Gate {
+    let mut plant = empty_plant(rt, alloc, rows.fails);
+    begin(alloc, &mut plant, Moment(BEGUN)).expect(rt, "a journal");
+    gate_over(rt, alloc, plant, rows.readings)
+}
+
+/// The list and the gate answer each command so.
+fn are_answered(
+    rt: &impl Abort,
+    alloc: Global,
+    rows: &mut Rows<'_>,
+    gate: &mut Gate,
+    commands: &[(Asked, Said)],
+) {
+    for (asked, want) in commands {
+        assert_eq!(rt;
+            rows.answer(rt, alloc, *asked),
+            *want,
+            "{asked:?} in the list"
+        );
+        assert_eq!(rt; ask(rt, alloc, gate, *asked), *want, "{asked:?}");
+    }
+}
+
+/// From this place on the disk holds these orders.
+fn holds(rt: &impl Abort, alloc: Global, plant: &MemoryPlant, at: usize, rows: &Rows<'_>) {
+    let records = records(rt, alloc, &rows.rows);
+    assert_eq!(rt; plant.disk().get(at..), Some(records.as_slice()));
+    assert_eq!(rt; plant.disk().len() as u64, rows.size);
+    assert_eq!(rt; plant.short(), 0);
+}
+
+/// How many entries an engine has that starts from the disk.
+fn count_again(rt: &impl Abort, alloc: Global, plant: &mut MemoryPlant) -> u64 {
+    let mut clock = clock(rt, alloc, &[]);
+    let engine = Engine::start(alloc, plant, &mut clock, &[]).expect(rt, "an engine");
+    engine.count()
+}
+
+#[test]
+fn a_table_of_commands_is_answered_as_by_a_list(rt: HostRuntime) {
+    let alloc = rt.alloc();
+    let mut rows = begun_rows(alloc);
+    let mut gate = begun_gate(&rt, alloc, &rows);
+    are_answered(&rt, alloc, &mut rows, &mut gate, COMMANDS);
+    assert_eq!(rt; rows.rows.len(), 10);
+    assert_eq!(rt; gate.engine.count(), 11);
+    assert_eq!(rt; gate.plant.disk().get(..43), Some(BEGUN_DISK));
+    holds(&rt, alloc, &gate.plant, 43, &rows);
+    assert_eq!(rt; count_again(&rt, alloc, &mut gate.plant), 11);
+}
+
+// ---- a journal that fills up
+
+/// Caller, key and content of each command where 100 bytes are left, and its reply.
+const LAST_COMMANDS: &[(Asked, Said)] = &[
+    // 51 bytes, and then one more than are left
+    ((0, 0, 0), (PLACED, 1121)),
+    ((1, 0, 0), (FULL, 0)),
+    ((0, 0, 0), (PLACED, 1121)),
+    ((0, 0, 1), (KEY_REUSED, 1121)),
+    // as many as are left
+    ((3, 1, 0), (PLACED, 1122)),
+    ((3, 2, 0), (FULL, 0)),
+    ((3, 1, 0), (PLACED, 1122)),
+    ((3, 1, 4), (KEY_REUSED, 1122)),
+];
+
+/// An order with a long request, under its number as the key. Its record takes 42 bytes more than the request.
+fn put_long_order(rt: &impl Abort, out: &mut Vec<u8>, number: u64, request: &[u8]) {
+    let size = u16::try_from(request.len()).expect(rt, "a request");
+    let behind_length = size.checked_add(38).expect(rt, "a record");
+    put(rt, out, &[0, 0]);
+    put(rt, out, &behind_length.to_be_bytes());
+    put(rt, out, &[2]);
+    put(rt, out, &number.to_be_bytes());
+    put(rt, out, &BEGUN.to_be_bytes());
+    put(rt, out, b"\0\x04acme\x08");
+    put(rt, out, &number.to_le_bytes());
+    put(rt, out, &[0, 0, 47, 0]);
+    put(rt, out, &size.to_be_bytes());
+    put(rt, out, request);
+}
+
+/// A disk with 1120 entries, on which 100 bytes are left.
+fn nearly_full_disk(rt: &impl Abort, alloc: Global) -> Bytes {
+    let mut out = BEGUN_DISK.to_vec(alloc).expect(rt, "memory");
+    let mut request = Vec::new(alloc);
+    request.resize(59_958, 0).expect(rt, "memory");
+    for number in 2..1120 {
+        put_long_order(rt, &mut out, number, &request);
+    }
+    request.truncate(28_679);
+    put_long_order(rt, &mut out, 1120, &request);
+    Bytes::from_vec(out)
+}
+
+fn nearly_full_gate(rt: &impl Abort, alloc: Global, readings: &[Option<u64>]) -> Gate {
+    let disk = nearly_full_disk(rt, alloc);
+    let plant = MemoryPlant::new(alloc, disk, Bytes::new(alloc), Sequence::new(alloc));
+    gate_over(rt, alloc, plant, readings)
+}
+
+fn nearly_full_rows(alloc: Global) -> Rows<'static> {
+    Rows {
+        before: 1120,
+        rows: Vec::new(alloc),
+        size: MOST_BYTES - 100,
+        loose: false,
+        calls: 4,
+        fails: &[],
+        readings: &[Some(BEGUN)],
+        read: 0,
+    }
+}
+
+#[test]
+fn a_journal_fills_up_to_its_last_byte(rt: HostRuntime) {
+    let alloc = rt.alloc();
+    let mut rows = nearly_full_rows(alloc);
+    let mut gate = nearly_full_gate(&rt, alloc, rows.readings);
+    are_answered(&rt, alloc, &mut rows, &mut gate, LAST_COMMANDS);
+    assert_eq!(rt; gate.engine.count(), 1122);
+    holds(&rt, alloc, &gate.plant, 67_108_764, &rows);
+}
+
+// ---- payloads that are no legal history
+
+/// What the first record of a journal holds that began at that moment.
+const SETTINGS: &[u8] = b"\x01\0\0\0\0\0\0\0\x01\0\0\0\0\x6a\xb1\x3b\x80\0\0\0\0\0\0";
+
+/// An order that may come behind these settings. Its record takes 51 bytes.
+const ORDER: Row = Row {
+    number: 2,
+    moment: BEGUN,
+    caller: 0,
+    key: 0,
+    content: 0,
+};
+
+fn begin_with(rt: &impl Abort, alloc: Global, plant: &mut MemoryPlant, payload: &[u8]) {
+    assert!(rt; 1 <= payload.len() && payload.len() <= MAX_PAYLOAD);
+    journal_core::begin(alloc, plant, payload).expect(rt, "a journal");
+}
+
+fn append(rt: &impl Abort, alloc: Global, plant: &mut MemoryPlant, payload: &[u8]) {
+    assert!(rt; 1 <= payload.len() && payload.len() <= MAX_PAYLOAD);
+    let size = payload.len() as u64;
+    let (mut journal, _) = Journal::mount(alloc, plant).expect(rt, "a journal");
+    journal.reserve(size).expect(rt, "memory");
+    assert!(rt; journal.has_room(size + 4));
+    journal.append(plant, payload).expect(rt, "a disk");
+}
+
+/// Why no engine starts from the disk.
+fn start_fault(rt: &impl Abort, alloc: Global, plant: &mut MemoryPlant) -> Option<StartFault> {
+    let mut clock = clock(rt, alloc, &[]);
+    Engine::start(alloc, plant, &mut clock, &[]).err()
+}
+
+/// The same for the journal of two payloads.
+fn fault_of_two(rt: &impl Abort, alloc: Global, first: &[u8], second: &[u8]) -> Option<StartFault> {
+    let mut plant = empty_plant(rt, alloc, &[]);
+    begin_with(rt, alloc, &mut plant, first);
+    append(rt, alloc, &mut plant, second);
+    start_fault(rt, alloc, &mut plant)
+}
+
+/// The same for the settings, the order and one order more.
+fn fault_behind_order(rt: &impl Abort, alloc: Global, row: Row) -> Option<StartFault> {
+    let mut plant = empty_plant(rt, alloc, &[]);
+    begin_with(rt, alloc, &mut plant, SETTINGS);
+    append(rt, alloc, &mut plant, &payload(rt, alloc, ORDER));
+    append(rt, alloc, &mut plant, &payload(rt, alloc, row));
+    start_fault(rt, alloc, &mut plant)
+}
+
+/// The same for these bytes.
+fn fault_of_bytes(rt: &impl Abort, alloc: Global, disk: &[u8]) -> Option<StartFault> {
+    let disk = bytes(rt, alloc, disk);
+    let mut plant = MemoryPlant::new(alloc, disk, Bytes::new(alloc), Sequence::new(alloc));
+    start_fault(rt, alloc, &mut plant)
+}
+
+fn bad_at(at: u64) -> Option<StartFault> {
+    Some(StartFault::JournalBad { at })
+}
+
+#[test]
+fn an_order_that_may_not_follow_is_told(rt: HostRuntime) {
+    // numbers and moments behind the settings
+    for (number, moment, want) in [
+        (2, BEGUN, None),
+        (2, LAST, None),
+        (0, BEGUN, bad_at(43)),
+        (1, BEGUN, bad_at(43)),
+        (3, BEGUN, bad_at(43)),
+        (u64::MAX, BEGUN, bad_at(43)),
+        (2, BEGUN - 1, bad_at(43)),
+        (2, LAST + 1, bad_at(43)),
+    ] {
+        let row = Row {
+            number,
+            moment,
+            ..ORDER
+        };
+        let payload = payload(&rt, rt.alloc(), row);
+        let fault = fault_of_two(&rt, rt.alloc(), SETTINGS, &payload);
+        assert_eq!(rt; fault, want, "{number} at {moment}");
+    }
+}
+
+#[test]
+fn a_key_that_stands_is_told(rt: HostRuntime) {
+    // number, caller, key and content behind an order
+    for (number, caller, key, content, want) in [
+        (3, 0, 1, 0, None),
+        (3, 1, 0, 0, None),
+        (3, 0, 0, 0, bad_at(94)),
+        (3, 0, 0, 1, bad_at(94)),
+        (2, 0, 1, 0, bad_at(94)),
+    ] {
+        let row = Row {
+            number,
+            moment: BEGUN,
+            caller,
+            key,
+            content,
+        };
+        let fault = fault_behind_order(&rt, rt.alloc(), row);
+        assert_eq!(rt; fault, want, "{number} {caller} {key} {content}");
+    }
+}
+
+#[test]
+fn other_payloads_are_told(rt: HostRuntime) {
+    let order = payload(&rt, rt.alloc(), ORDER);
+    let first = payload(&rt, rt.alloc(), Row { number: 1, ..ORDER });
+    for (first, second, at) in [
+        (order.as_slice(), SETTINGS, 16),
+        (first.as_slice(), SETTINGS, 16),
+        (SETTINGS, SETTINGS, 43),
+        (SETTINGS, b"x".as_slice(), 43),
+        (b"x".as_slice(), b"x".as_slice(), 16),
+    ] {
+        let fault = fault_of_two(&rt, rt.alloc(), first, second);
+        assert_eq!(rt; fault, bad_at(at), "{first:?} {second:?}");
+    }
+}
+
+#[test]
+fn bytes_that_are_no_journal_are_told(rt: HostRuntime) {
+    let not_begun = Some(StartFault::NotBegun);
+    for (disk, want) in [
+        (b"".as_slice(), not_begun),
+        (b"gate journal 0\n".as_slice(), not_begun),
+        // no record, and torn ones
+        (b"gate journal 00\n".as_slice(), bad_at(16)),
+        (b"gate journal 00\n\0\0\0".as_slice(), bad_at(16)),
+        (b"gate journal 00\n\0\0\0\0".as_slice(), bad_at(16)),
+        (b"gate journal 00\n\0\0\0\x02\x02".as_slice(), bad_at(16)),
+        (BEGUN_DISK, None),
+    ] {
+        let fault = fault_of_bytes(&rt, rt.alloc(), disk);
+        assert_eq!(rt; fault, want, "{disk:?}");
+    }
+}
+
+#[test]
+fn a_torn_second_record_is_told(rt: HostRuntime) {
+    for tail in [
+        b"\0".as_slice(),
+        b"\0\0\0\0".as_slice(),
+        b"\0\0\0\x03\x02\0".as_slice(),
+        b"\xff\xff\xff\xff\x02".as_slice(),
+    ] {
+        let mut disk = BEGUN_DISK.to_vec(rt.alloc()).expect(&rt, "memory");
+        put(&rt, &mut disk, tail);
+        let fault = fault_of_bytes(&rt, rt.alloc(), &disk);
+        assert_eq!(rt; fault, bad_at(43), "{tail:?}");
+    }
+}
+
+#[test]
+fn a_disk_that_is_too_long_is_told(rt: HostRuntime) {
+    let mut disk = b"gate journal 00\n"
+        .to_vec(rt.alloc())
+        .expect(&rt, "memory");
+    for (size, at) in [(67_108_864, 16), (67_108_865, 67_108_864)] {
+        disk.resize(size, 0).expect(&rt, "memory");
+        let fault = fault_of_bytes(&rt, rt.alloc(), &disk);
+        assert_eq!(rt; fault, bad_at(at), "{size} bytes");
+    }
+}
