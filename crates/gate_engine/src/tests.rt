@@ -93,29 +93,21 @@ struct Content {
     request: u8,
 }
 
-fn content_of(content: u8) -> Content {
-    let first = Content {
+fn content_of(number: u8) -> Content {
+    let mut content = Content {
         days: 47,
         common: false,
         name: b"example.com",
         request: 0x30,
     };
-    match content {
-        0 => first,
-        1 => Content { days: 0, ..first },
-        2 => Content {
-            common: true,
-            ..first
-        },
-        3 => Content {
-            name: b"www.example.com",
-            ..first
-        },
-        _ => Content {
-            request: 0x31,
-            ..first
-        },
+    match number {
+        0 => {}
+        1 => content.days = 0,
+        2 => content.common = true,
+        3 => content.name = b"www.example.com",
+        _ => content.request = 0x31,
     }
+    content
 }
 
 // ---- an engine
@@ -411,8 +403,6 @@ fn records(rt: &impl Abort, alloc: Global, rows: &[Row]) -> Vec<u8> {
     out
 }
 
-// ---- the table
-
 /// Caller, key and content of each command, and its reply.
 const COMMANDS: &[(Asked, Said)] = &[
     ((0, 0, 0), (CLOCK_FAULT, 0)),
@@ -461,7 +451,7 @@ const COMMANDS: &[(Asked, Said)] = &[
     ((2, 0, 3), (PLACED, 11)),
 ];
 
-/// What the clock gives to the commands that come so far.
+/// What the clock gives to those commands that come as far as to read it.
 const READINGS: &[Option<u64>] = &[
     None,
     Some(FIRST - 1),
