@@ -12,3 +12,6 @@ pub use fault::CsrFault;
 pub use fields::CsrFields;
 pub use gate_base::KeyKind;
 pub use reading::read_request;
+
+#[cfg(test)]
+mod tests;

@@ -8,3 +8,6 @@ mod parts;
 
 pub use key::read_key_kind;
 pub use parts::{are_none, constructed_parts, take_constructed, take_primitive};
+
+#[cfg(test)]
+mod tests;
