@@ -4,6 +4,7 @@
 mod extension;
 mod fault;
 mod fields;
+mod laws;
 mod name;
 mod reading;
 mod shape;
@@ -11,6 +12,7 @@ mod shape;
 pub use fault::CsrFault;
 pub use fields::CsrFields;
 pub use gate_base::KeyKind;
+pub use laws::one_reading;
 pub use reading::read_request;
 
 #[cfg(test)]

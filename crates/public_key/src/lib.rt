@@ -3,10 +3,12 @@
 
 mod bits;
 mod key;
+mod laws;
 mod number;
 mod parts;
 
 pub use key::read_key_kind;
+pub use laws::one_kind;
 pub use parts::{are_none, constructed_parts, take_constructed, take_primitive};
 
 #[cfg(test)]
