@@ -1,5 +1,5 @@
 -- What bytes are read to, they are read to alone.
-use Rattle.std.proofs.Common.{◌≡◌, ◌≢◌, ℕ, ◌≤◌, List, [], ◌∷◌, length, Option, Some, None, Result, Ok, Err, refl, sym, ap, ◌∙◌, subst, arith}
+use Rattle.std.proofs.Common.{◌≡◌, ◌≢◌, ℕ, ◌≤◌, List, [], ◌∷◌, length, Option, Some, Ok, Err, refl, sym, ap, ◌∙◌, subst, arith}
 use Rattle.gate_base.specs.declared.profile.KeyKind.{KeyKind}
 use Rattle.gate_base.specs.declared.name.Target.{Target}
 use Rattle.der_text.specs.declared.fault.DerFault.{DerFault}

@@ -1,5 +1,5 @@
 -- What bytes are a certificate request, with what fields, and what is wrong with other bytes.
-use Rattle.std.specs.Prelude.{◌≡◌, ◌≢◌, ℕ, ◌≤◌, List, [], ◌∷◌, length, Option, Some, None, option_map, Result, Ok, Err}
+use Rattle.std.specs.Prelude.{◌≡◌, ◌≢◌, ℕ, ◌≤◌, List, [], ◌∷◌, length, Option, Some, None, option_map, Ok, Err}
 use Rattle.std.specs.List.{AllByRecursion}
 use Rattle.gate_base.specs.declared.profile.KeyKind.{KeyKind}
 use Rattle.gate_base.specs.declared.name.Target.{Target}

@@ -1,10 +1,9 @@
 -- What a part of the reader tells.
-use Rattle.std.specs.Prelude.{◌≡◌, ℕ, ◌≤◌, List, length, Option, Some, None, Result, Ok, Err}
+use Rattle.std.specs.Prelude.{◌≡◌, ℕ, List, Result, Err}
 use Rattle.gate_base.specs.declared.name.Target.{Target}
 use Rattle.der_text.specs.Fault as der
 use Rattle.csr10.specs.declared.fault.CsrFault.{CsrFault}
 use Rattle.csr10.specs.declared.fault.CsrFault.TheVariants.{Der, Shape, Version, Key, SanTwice, SanName, NoMemory}
-use Rattle.csr10.specs.Shape.{joined}
 use Rattle.csr10.specs.Csr.{Request, HasBadShape, HasTwoSans, HasBadName}
 
 -- a fault is a bad shape, where this holds, or want of memory

@@ -4,7 +4,7 @@ use Rattle.gate_base.specs.declared.profile.KeyKind.{KeyKind}
 use Rattle.gate_base.specs.declared.profile.KeyKind.TheVariants.{Rsa, P256, P384, P521}
 use Rattle.der_text.specs.Content.{last_of}
 use Rattle.der_text.specs.Tree.{Node, spelling, part_of}
-use Rattle.public_key.specs.Key.{algorithm_bytes, key_tree, IsKeyOf}
+use Rattle.public_key.specs.Key.{algorithm_bytes, key_tree}
 
 kind_ending : List ℕ → KeyKind
 kind_ending bytes =

@@ -1,8 +1,8 @@
 -- What a part that was read stood as.
-use Rattle.std.proofs.Common.{◌≡◌, ◌==◌, ℕ, true, false, List, [], ◌∷◌, Option, Some, None, option_map, if◌then◌else◌, refl, sym, ap, ◌∙◌}
+use Rattle.std.proofs.Common.{◌≡◌, ◌==◌, ℕ, true, false, List, Option, Some, None, option_map, if◌then◌else◌, refl, ap}
 use Rattle.std.proofs.lemmas.Bool.{eqb-true}
 use Rattle.der_text.specs.Tree.{Node, primitive, constructed, Nodes, no_nodes, also}
-use Rattle.public_key.specs.Parts.{◌>>=◌, content_with, parts_with, primitive_at, constructed_at, behind_first, are_none, at_end}
+use Rattle.public_key.specs.Parts.{◌>>=◌, content_with, parts_with, primitive_at, at_end}
 
 -- a value that a test lets through
 pub passed : {A P : Type 0} (b : _) (x y : A) → (if b then Some x else None) ≡ Some y → (b ≡ true → x ≡ y → P) → P

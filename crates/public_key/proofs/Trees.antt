@@ -1,11 +1,10 @@
 -- The trees of keys, and what is read of them.
-use Rattle.std.proofs.Common.{◌≡◌, ◌==◌, ℕ, Bool, true, false, List, [], ◌∷◌, Option, Some, None, option_map, if◌then◌else◌, refl, sym, ap, ◌∙◌, subst, ◌↔◌, IsTrue, ◌&&◌}
-use Rattle.std.proofs.lemmas.Bool.{eqb-true, and_parts}
-use Rattle.der_text.specs.Tree.{Node, primitive, constructed, Nodes, no_nodes, also, spelling, IsDer, part_of}
-use Rattle.gate_base.specs.declared.profile.KeyKind.{KeyKind}
-use Rattle.public_key.specs.Parts.{◌>>=◌, content_with, parts_with, primitive_at, constructed_at, behind_first, are_none, at_end}
-use Rattle.public_key.specs.Key.{numbers_of, rsa_tree, IsRsa, is_modulus, is_exponent, bits_of, behind_zero, key_tree, algorithm_bytes, AreBitsOf, IsKeyOf}
-use Rattle.public_key.proofs.Inversion.{passed, bound, parts_are, primitive_is, end_is}
+use Rattle.std.proofs.Common.{◌≡◌, ℕ, Bool, List, Some, sym, ap, ◌∙◌, subst, ◌↔◌, IsTrue, ◌&&◌}
+use Rattle.std.proofs.lemmas.Bool.{and_parts}
+use Rattle.der_text.specs.Tree.{Node, IsDer}
+use Rattle.public_key.specs.Parts.{parts_with, primitive_at}
+use Rattle.public_key.specs.Key.{numbers_of, rsa_tree, IsRsa, is_modulus, is_exponent}
+use Rattle.public_key.proofs.Inversion.{bound, parts_are, primitive_is, end_is}
 
 pub numbers_are : (tree : Node) (x : List ℕ × List ℕ) → numbers_of tree ≡ Some x → tree ≡ rsa_tree x.0 x.1
 numbers_are tree x e =

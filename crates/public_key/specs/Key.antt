@@ -4,7 +4,7 @@ use Rattle.std.specs.Prelude.{◌≡◌, ℕ, ◌*◌, ◌%◌, Bool, false, not
 use Rattle.gate_base.specs.declared.profile.KeyKind.{KeyKind}
 use Rattle.gate_base.specs.declared.profile.KeyKind.TheVariants.{Rsa, P256, P384, P521}
 use Rattle.der_text.specs.Content.{last_of}
-use Rattle.der_text.specs.Tree.{Node, primitive, constructed, Nodes, no_nodes, also, spelling, IsDer}
+use Rattle.der_text.specs.Tree.{Node, primitive, constructed, no_nodes, also, spelling, IsDer}
 use Rattle.public_key.specs.Parts.{◌>>=◌, parts_with, primitive_at, behind_first, at_end}
 
 -- the bytes of the algorithm (BR, section 7.1.3.1): rsaEncryption with NULL, or id-ecPublicKey with the curve
