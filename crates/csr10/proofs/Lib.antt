@@ -1,0 +1,4 @@
+pub mod Rows
+pub mod Targets
+pub mod Faults
+pub mod OneReading

@@ -1,0 +1,5 @@
+pub mod Shape
+pub mod Names
+pub mod Csr
+pub mod View
+pub mod Told

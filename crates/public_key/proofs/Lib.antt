@@ -1,0 +1,3 @@
+pub mod Inversion
+pub mod Trees
+pub mod Algorithms
