@@ -20,3 +20,5 @@ joined_none old (Some more) e = absurd (cc e)
 pub joined_start : (found : Option (List (List ℕ))) → joined (Some []) found ≡ found
 joined_start None = refl
 joined_start (Some more) = refl
+
+pub ruleset rows = (joined_step, joined_end, joined_none, joined_start)

@@ -24,3 +24,5 @@ following_start (Err place) = ap (λ (i : ℕ). Err i) (omega arith)
 
 pub following_none : (targets : List Target) (others : Result (List Target) ℕ) → following targets (in_front None others) ≡ Err (length targets)
 following_none targets others = ap (λ (i : ℕ). Err i) (omega arith)
+
+pub ruleset targets = (following_step, following_end, following_start, following_none)

@@ -3,3 +3,4 @@ pub mod Names
 pub mod Csr
 pub mod View
 pub mod Told
+pub mod Form

@@ -114,7 +114,7 @@ fn push_san<'a>(tree: &Tree<'a>, sans: &mut Vec<&'a [u8]>) -> Result<(), CsrFaul
 }
 
 /// Appends the values of the subjectAltName extensions.
-#[tactic(auto, using(crate::proofs::Rows::joined_step, crate::proofs::Rows::joined_end, crate::proofs::Rows::joined_none, crate::proofs::Rows::joined_start))]
+#[tactic(auto, using(crate::proofs::Rows::rows))]
 fn push_extensions<'a>(extensions: &[Tree<'a>], sans: &mut Vec<&'a [u8]>) -> Result<(), CsrFault>
     ensures ok { OnOk result (joined (Some (map (λ s. s.now) sans.old.items)) (each_of spec.sans_of_extension (nodes extensions.now)) ≡
         Some (map (λ s. s.now) sans.new.items)) }
@@ -147,7 +147,7 @@ fn push_attribute<'a>(tree: &Tree<'a>, sans: &mut Vec<&'a [u8]>) -> Result<(), C
 }
 
 /// The values of all subjectAltName extensions that the attributes ask for.
-#[tactic(auto, using(crate::proofs::Rows::joined_step, crate::proofs::Rows::joined_end, crate::proofs::Rows::joined_none, crate::proofs::Rows::joined_start))]
+#[tactic(auto, using(crate::proofs::Rows::rows))]
 pub fn sans_of<'a>(alloc: Global, attributes: &[Tree<'a>]) -> Result<Vec<&'a [u8]>, CsrFault>
     ensures ok { IfOk result (λ sans. each_of spec.sans_of_attribute (nodes attributes.now) ≡ Some (map (λ s. s.now) sans.items)) }
     ensures err { IfErr result (λ e. IfShape e (each_of spec.sans_of_attribute (nodes attributes.now) ≡ None)) }

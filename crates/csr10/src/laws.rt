@@ -1,6 +1,9 @@
-ghost use Rattle.std.specs.Prelude.{◌≡◌, ◌≢◌, ℕ, List};
+ghost use Rattle.std.specs.Prelude.{◌≡◌, ◌≢◌, ◌↔◌, ℕ, List, Some};
+ghost use Rattle.der_text.specs.Tree.{Node, Nodes};
 ghost use Rattle.csr10.specs.declared.fault.CsrFault.{CsrFault};
 ghost use Rattle.csr10.specs.declared.fault.CsrFault.TheVariants as csr_faults;
+ghost use Rattle.csr10.specs.Form.{attribute_tree, IsExtensionTree, IsRequestTree};
+ghost use Rattle.csr10.specs.Shape as shape;
 ghost use Rattle.csr10.specs.Csr.{Fields, IsCsr, IsFirstFault};
 
 use der_text::{one_first_fault, what_is_spelled_is_read};
@@ -18,3 +21,13 @@ pub fn one_reading()
     one_first_fault();
     one_kind();
 }
+
+/// What is read of a tree are the parts of the form that it has: of a request, an attribute and an extension.
+pub fn forms_are_read()
+    ensures requests { (tree : Node) (version : List ℕ) (attributes : Nodes) →
+        (shape.request_of tree ≡ Some (version, attributes)) ↔ IsRequestTree tree version attributes }
+    ensures attributes { (tree : Node) (type : List ℕ) (values : Nodes) →
+        (shape.attribute_of tree ≡ Some (type, values)) ↔ (tree ≡ attribute_tree type values) }
+    ensures extensions { (tree : Node) (identifier value : List ℕ) →
+        (shape.extension_of tree ≡ Some (identifier, value)) ↔ IsExtensionTree tree identifier value }
+{}

@@ -12,7 +12,7 @@ mod shape;
 pub use fault::CsrFault;
 pub use fields::CsrFields;
 pub use gate_base::KeyKind;
-pub use laws::one_reading;
+pub use laws::{forms_are_read, one_reading};
 pub use reading::read_request;
 
 #[cfg(test)]

@@ -54,7 +54,7 @@ fn target_of(alloc: Global, name: &Tree<'_>) -> Result<Option<Target>, NoMemory>
 }
 
 /// The targets of all names, or the first that is none.
-#[tactic(auto, using(crate::proofs::Targets::following_step, crate::proofs::Targets::following_end, crate::proofs::Targets::following_start, crate::proofs::Targets::following_none))]
+#[tactic(auto, using(crate::proofs::Targets::targets))]
 pub fn targets_of(alloc: Global, names: &[Tree<'_>]) -> Result<Targets, CsrFault>
     ensures ok { IfOk result (λ targets. spec.targets_of (nodes names.now) ≡ Ok targets) }
     ensures err { IfErr result (λ e. IsNameFault e (spec.targets_of (nodes names.now))) }

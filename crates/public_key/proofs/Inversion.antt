@@ -2,7 +2,7 @@
 use Rattle.std.proofs.Common.{◌≡◌, ◌==◌, ℕ, true, false, List, Option, Some, None, option_map, if◌then◌else◌, refl, ap}
 use Rattle.std.proofs.lemmas.Bool.{eqb-true}
 use Rattle.der_text.specs.Tree.{Node, primitive, constructed, Nodes, no_nodes, also}
-use Rattle.public_key.specs.Parts.{◌>>=◌, content_with, parts_with, primitive_at, at_end}
+use Rattle.public_key.specs.Parts.{◌>>=◌, content_with, parts_with, primitive_at, constructed_at, at_end}
 
 -- a value that a test lets through
 pub passed : {A P : Type 0} (b : _) (x y : A) → (if b then Some x else None) ≡ Some y → (b ≡ true → x ≡ y → P) → P
@@ -30,6 +30,11 @@ pub primitive_is : (tag : ℕ) (nodes : Nodes) (x : List ℕ × Nodes) → primi
 primitive_is tag no_nodes x e = absurd (cc e)
 primitive_is tag (also first others) x e =
     mapped (λ content. (content, others)) (content_with tag first) x e (λ content is same. cc (content_is tag first content is, ap (λ (p : List ℕ × Nodes). p.0) same, ap (λ (p : List ℕ × Nodes). p.1) same))
+
+pub constructed_is : (tag : ℕ) (nodes : Nodes) (x : Nodes × Nodes) → constructed_at tag nodes ≡ Some x → nodes ≡ also (constructed tag x.0) x.1
+constructed_is tag no_nodes x e = absurd (cc e)
+constructed_is tag (also first others) x e =
+    mapped (λ parts. (parts, others)) (parts_with tag first) x e (λ parts is same. cc (parts_are tag first parts is, ap (λ (p : Nodes × Nodes). p.0) same, ap (λ (p : Nodes × Nodes). p.1) same))
 
 pub end_is : {A P : Type 0} (nodes : Nodes) (x y : A) → at_end nodes x ≡ Some y → (nodes ≡ no_nodes → x ≡ y → P) → P
 end_is no_nodes x y e k = k refl (cc e)
