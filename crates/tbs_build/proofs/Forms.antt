@@ -54,7 +54,7 @@ unfolding AreInForm
 names_in_form [] short = tt
 names_in_form (target ∷ targets) short = (name_in_form target short.0, names_in_form targets short.1)
 
-pub small_is_der : (serial names content : List ℕ) (targets : List Target) → IsSerial serial → length serial ≤ 16 → AllByRecursion IsShort targets → names ≡ spellings (general_names targets) → length names ≤ 259 * 255 → content ≡ element 2 serial ++ element 48 names → length content ≤ 28 + 259 * 255 → IsDer (element 48 content) (small_body_tree serial targets)
+pub small_is_der : (serial names content : List ℕ) (targets : List Target) → IsSerial serial → length serial ≤ 16 → AllByRecursion IsShort targets → names ≡ spellings (general_names targets) → length names ≤ 256 * 255 → content ≡ element 2 serial ++ element 48 names → length content ≤ 23 + 256 * 255 → IsDer (element 48 content) (small_body_tree serial targets)
 unfolding IsInForm AreInForm
 small_is_der serial names content targets is few short named names_few contained content_few =
     let inner = spellings (general_names targets) in

@@ -1,10 +1,10 @@
 //! The small body, which names a serial number and targets alone.
-ghost use Rattle.std.specs.Prelude.{◌≡◌, ◌+◌, ◌*◌, ◌^◌, ◌≤◌, [], ◌∷◌, ◌++◌, length, IfOk, OnOk};
+ghost use Rattle.std.specs.Prelude.{◌≡◌, ℕ, List, ◌+◌, ◌*◌, ◌^◌, ◌<◌, ◌≤◌, [], ◌∷◌, ◌++◌, length, IfOk, OnOk};
 ghost use Rattle.std.specs.List.{AllByRecursion};
-ghost use Rattle.der_text.specs.Tree.{element, spelling, spellings, IsDer};
+ghost use Rattle.der_text.specs.Tree.{element, head_length, spelling, spellings, IsDer};
 ghost use Rattle.tbs_build.specs.Small.{general_name, general_names, small_body_tree, IsSerial, IsShort};
 
-use der_text::{Tree, a_head_is_short, write_tree};
+use der_text::{Tree, write_tree};
 use gate_base::{Address, Bytes, NoMemory, Sixteen, Target, Targets};
 use names_core::target_text;
 use std::alloc::Global;
@@ -21,13 +21,20 @@ const DNS_NAME: u8 = 0x82;
 /// The tag of an iPAddress.
 const IP_ADDRESS: u8 = 0x87;
 
+/// Before a content of fewer than 65,536 bytes stand at most four, and before one of fewer than 256 at most three.
+fn a_head_is_shorter()
+    ensures four { (content : List ℕ) → length content < 2 ^ 16 → head_length content ≤ 4 }
+    ensures three { (content : List ℕ) → length content < 2 ^ 8 → head_length content ≤ 3 }
+{}
+
 /// Appends an element with this content.
 fn push_element(tag: u8, content: &[u8], out: &mut Vec<u8>) -> Result<(), NoMemory>
-    requires { length content.now ≤ 2 ^ 30 }
+    requires { length content.now < 2 ^ 16 }
     ensures ok { OnOk result (out.new.items ≡ out.old.items ++ element tag content.now) }
-    ensures few { OnOk result (length out.new.items ≤ length out.old.items + (6 + length content.now)) }
+    ensures few { OnOk result (length out.new.items ≤ length out.old.items + (4 + length content.now)) }
+    ensures fewer { OnOk result (length content.now < 2 ^ 8 → length out.new.items ≤ length out.old.items + (3 + length content.now)) }
 {
-    a_head_is_short();
+    a_head_is_shorter();
     write_tree(&Tree::Prim { tag, content }, out)
 }
 
@@ -35,7 +42,7 @@ fn push_element(tag: u8, content: &[u8], out: &mut Vec<u8>) -> Result<(), NoMemo
 fn push_name(target: &Target, out: &mut Vec<u8>) -> Result<(), NoMemory>
     requires { IsShort target.now }
     ensures ok { OnOk result (out.new.items ≡ out.old.items ++ spelling (general_name target.now)) }
-    ensures few { OnOk result (length out.new.items ≤ length out.old.items + 259) }
+    ensures few { OnOk result (length out.new.items ≤ length out.old.items + 256) }
 {
     match target {
         Target::Dns(_) => {
@@ -53,7 +60,7 @@ fn names_of(alloc: Global, targets: &[Target]) -> Result<Vec<u8>, NoMemory>
     requires count { length targets.now ≤ 255 }
     requires short { AllByRecursion IsShort targets.now }
     ensures names { IfOk result (λ names. names.items ≡ spellings (general_names targets.now)) }
-    ensures few { IfOk result (λ names. length names.items ≤ 259 * 255) }
+    ensures few { IfOk result (λ names. length names.items ≤ 256 * 255) }
 {
     let mut names = Vec::new(alloc);
     for target in targets {
@@ -65,9 +72,9 @@ fn names_of(alloc: Global, targets: &[Target]) -> Result<Vec<u8>, NoMemory>
 /// The content of the body.
 fn content_of(alloc: Global, serial: &[u8], names: &[u8]) -> Result<Vec<u8>, NoMemory>
     requires serial { length serial.now ≤ 16 }
-    requires names { length names.now ≤ 259 * 255 }
+    requires names { length names.now ≤ 256 * 255 }
     ensures content { IfOk result (λ content. content.items ≡ element 2 serial.now ++ element 48 names.now) }
-    ensures few { IfOk result (λ content. length content.items ≤ 28 + 259 * 255) }
+    ensures few { IfOk result (λ content. length content.items ≤ 23 + 256 * 255) }
 {
     let mut content = Vec::new(alloc);
     push_element(INTEGER, serial, &mut content)?;
@@ -80,7 +87,9 @@ pub fn small_body(alloc: Global, serial: &Sixteen, targets: &Targets) -> Result<
     requires serial { IsSerial serial.now.0 }
     requires count { length targets.now ≤ 255 }
     requires short { AllByRecursion IsShort targets.now }
-    ensures { IfOk result (λ body. IsDer body (small_body_tree serial.now.0 targets.now)) }
+    ensures der { IfOk result (λ body. IsDer body (small_body_tree serial.now.0 targets.now)) }
+    // A number of two bytes counts them.
+    ensures few { IfOk result (λ body. length body < 2 ^ 16) }
 {
     let names = names_of(alloc, targets.as_slice())?;
     let content = content_of(alloc, &serial.0, &names)?;

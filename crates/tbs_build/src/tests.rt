@@ -1,4 +1,4 @@
-ghost use Rattle.std.specs.Prelude.{IsTrue, IfOk};
+ghost use Rattle.std.specs.Prelude.{◌≤◌, length, IsTrue, IfOk};
 ghost use Rattle.tbs_build.specs.Small.{IsShort};
 
 use crate::{certificate, certificate_len, small_body};
@@ -48,6 +48,12 @@ fn target(alloc: Global, text: &[u8]) -> Result<Target, NoMemory> {
     }
 }
 
+fn is_at_most_253(bytes: &[u8]) -> bool
+    ensures { IsTrue result → length bytes.now ≤ 253 }
+{
+    bytes.len() <= 253
+}
+
 fn is_short(alloc: Global, target: &Target) -> Result<bool, NoMemory>
     ensures { IfOk result (λ short. IsTrue short → IsShort target.now) }
 {
@@ -55,10 +61,10 @@ fn is_short(alloc: Global, target: &Target) -> Result<bool, NoMemory>
         Target::Dns(_) => {
             let mut text = Vec::new(alloc);
             target_text(target, &mut text)?;
-            Ok(text.len() <= 253)
+            Ok(is_at_most_253(&text))
         }
-        Target::Ip(Address::V4(octets)) => Ok(octets.len() <= 253),
-        Target::Ip(Address::V6(octets)) => Ok(octets.len() <= 253),
+        Target::Ip(Address::V4(octets)) => Ok(is_at_most_253(octets)),
+        Target::Ip(Address::V6(octets)) => Ok(is_at_most_253(octets)),
     }
 }
 

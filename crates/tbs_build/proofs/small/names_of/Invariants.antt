@@ -9,5 +9,5 @@ abbrev pub invariant-loop-target : goal.invariant-loop-target
 invariant-loop-target l = record {
   written : l.names.items ++ spellings (general_names (drop l.target-index l.targets)) ≡ spellings (general_names l.targets);
   short : AllByRecursion IsShort (drop l.target-index l.targets);
-  few : length l.names.items ≤ 259 * l.target-index;
+  few : length l.names.items ≤ 256 * l.target-index;
 }

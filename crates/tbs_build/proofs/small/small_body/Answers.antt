@@ -4,8 +4,8 @@ use Rattle.tbs_build.specs.Small.{general_names, small_body_tree}
 use Rattle.tbs_build.proofs.Forms.{small_is_der}
 use Rattle.tbs_build.proofs.small.small_body.Goals as goal
 
-pub returns : goal.returns
-returns c =
+pub returns-clause-der : goal.returns-clause-der
+returns-clause-der c =
     let few : length c.args.serial.now.0 ≤ 16 = search rules in
     let named : c.in_ok-names.names.items ≡ spellings (general_names c.args.targets.now) = search rules in
     let contained : c.in_ok-content.content.items ≡ element 2 c.args.serial.now.0 ++ element 48 c.in_ok-names.names.items = search rules in
