@@ -1,4 +1,6 @@
 //! How the program ends.
+ghost use Rattle.std.specs.Prelude.{◌≡◌};
+ghost use Rattle.gate_server.specs.Exit.{exit_of, name_of};
 
 /// What `run` answers.
 #[derive(Clone, Copy, Debug, PartialEq, Eq)]
@@ -29,7 +31,9 @@ pub enum Status {
 
 impl Status {
     /// The exit status of the program.
-    pub fn exit(self) -> u8 {
+    pub fn exit(self) -> u8
+        ensures { result ≡ exit_of self }
+    {
         match self {
             Status::Ok => 0,
             Status::Usage => 2,
@@ -48,7 +52,9 @@ impl Status {
     }
 
     /// Its name, as it is told on standard error.
-    pub fn name(self) -> &'static str {
+    pub fn name(self) -> &'static str
+        ensures { result.now ≡ name_of self }
+    {
         match self {
             Status::Ok => "Ok",
             Status::Usage => "Usage",
