@@ -8,6 +8,11 @@ use std::test::Fail;
 const ORDER: &[u8] =
     b"POST /orders HTTP/1.1\r\nhost: gate\r\nx-gate-key: acme-token\r\ncontent-length: 88\r\n\r\n{\"common\":false,\"days\":90,\"key\":\"k1\",\"names\":[\"example.com\",\"*.a1.b2\"],\"request\":\"MAA=\"}P";
 
+/// Three labels of 63 bytes, with a dot before each: 192 bytes.
+const THREE_LABELS: &str = ".bbbbbbbbbbbbbbbbbbbbbbbbbbbbbbbbbbbbbbbbbbbbbbbbbbbbbbbbbbbbbbb\
+    .bbbbbbbbbbbbbbbbbbbbbbbbbbbbbbbbbbbbbbbbbbbbbbbbbbbbbbbbbbbbbbb\
+    .bbbbbbbbbbbbbbbbbbbbbbbbbbbbbbbbbbbbbbbbbbbbbbbbbbbbbbbbbbbbbbb";
+
 const HEAD: &str = "POST /orders HTTP/1.1\r\nhost: gate\r\nx-gate-key: acme-token\r\n";
 
 const MESSAGE: u64 = 1_000;
@@ -97,6 +102,16 @@ fn keyed(alloc: Global, letters: u64) -> Result<u64, Fail> {
         key.push_str("k")?;
     }
     ordered(alloc, "90", &key, "\"a.b\"", "MAA=")
+}
+
+/// What is found of an order with a request of 16,383 bytes and those that the base64 behind them says.
+fn requested(alloc: Global, last: &str) -> Result<u64, Fail> {
+    let mut request = String::new(alloc);
+    for _ in 0..5_461 {
+        request.push_str("MAAA")?;
+    }
+    request.push_str(last)?;
+    ordered(alloc, "90", "k1", "\"a.b\"", &request)
 }
 
 /// What is found in so many bytes of the order.
@@ -226,6 +241,8 @@ fn bodies_of_another_form_are_refused(rt: HostRuntime) -> Result<(), Fail> {
     assert_eq!(rt; bodied(alloc, "{}")?, NEVER);
     assert_eq!(rt; keyed(alloc, 64)?, MESSAGE);
     assert_eq!(rt; keyed(alloc, 65)?, NEVER);
+    assert_eq!(rt; requested(alloc, "MA==")?, MESSAGE);
+    assert_eq!(rt; requested(alloc, "MAA=")?, NEVER);
     Ok(())
 }
 
@@ -252,6 +269,8 @@ fn other_names_are_refused(rt: HostRuntime) -> Result<(), Fail> {
     }
     assert_eq!(rt; longer(alloc, 63, ".b")?, MESSAGE);
     assert_eq!(rt; longer(alloc, 64, ".b")?, NEVER);
+    assert_eq!(rt; longer(alloc, 61, THREE_LABELS)?, MESSAGE);
+    assert_eq!(rt; longer(alloc, 62, THREE_LABELS)?, NEVER);
     assert_eq!(rt; counted(alloc, 100, "\"n0.com\"")?, MESSAGE);
     assert_eq!(rt; counted(alloc, 101, "\"n0.com\"")?, NEVER);
     assert_eq!(rt; counted(alloc, 100, "\"n99.com\"")?, NEVER);
