@@ -1,34 +1,58 @@
 -- Commands and the entries that they write.
-use Rattle.std.specs.Prelude.{ℕ, ◌≤◌, List, [], length}
+use Rattle.std.specs.Prelude.{ℕ, ◌<◌, ◌≤◌, ◌^◌, List, [], length, Bool, true, false, Option, Some, None, option_map}
+use Rattle.std.specs.List.{AllByRecursion}
 use Rattle.gate_base.specs.declared.moment.Moment.{Moment}
+use Rattle.gate_base.specs.declared.profile.Role.{Role}
+use Rattle.gate_base.specs.declared.profile.Role.TheVariants as roles
 use Rattle.gate_entries.specs.declared.caller.Caller.{Caller}
 use Rattle.gate_entries.specs.declared.command.Command.{Command}
 use Rattle.gate_entries.specs.declared.command.Command.TheVariants as commands
 use Rattle.gate_entries.specs.declared.entry.Entry.{Entry}
 use Rattle.gate_entries.specs.declared.entry.What.{What}
 use Rattle.gate_entries.specs.declared.entry.What.TheVariants as whats
-use Rattle.gate_entries.specs.Spelling.{IsOrder}
+use Rattle.gate_entries.specs.Spelling.{IsOrder, IsTarget}
 
--- the retry key
-abbrev pub key_of : Command → List ℕ
-key_of (commands.Order key targets days common request) = key
+-- the retry key under which a caller's entry stands
+abbrev pub key_of : What → Option (List ℕ)
+key_of (whats.Order key common days targets request) = Some key
+key_of (whats.Blocked key spki) = Some key
+key_of what = None
 
--- what the entry of a command says
-abbrev pub what_of : Command → What
-what_of (commands.Order key targets days common request) = whats.Order key common days targets request
+-- what a command's entry says, where the command says all of it; what is sent for an order says more
+abbrev pub what_of : Command → Option What
+what_of (commands.Order key targets days common request) = Some (whats.Order key common days targets request)
+what_of (commands.Block key spki) = Some (whats.Blocked key spki)
+what_of (commands.Finalize order) = None
+
+abbrev pub entry_with : ℕ → Moment → List ℕ → What → Entry
+entry_with number moment caller what = record { number = number; moment = moment; caller = caller; what = what }
 
 -- the entry that a command writes
-abbrev pub entry_for : ℕ → Moment → Caller → Command → Entry
-entry_for number moment caller command = record { number = number; moment = moment; caller = caller.id; what = what_of command }
+abbrev pub entry_for : ℕ → Moment → Caller → Command → Option Entry
+entry_for number moment caller command = option_map (entry_with number moment caller.id) (what_of command)
 
 -- the entry of settings, which are nobody's
 abbrev pub settings_entry : ℕ → Moment → List ℕ → Entry
-settings_entry number moment bytes = record { number = number; moment = moment; caller = []; what = whats.Settings bytes }
+settings_entry number moment bytes = entry_with number moment [] (whats.Settings bytes)
 
 -- the command's fields have a spelling
 abbrev pub IsCommand : Command → Type 0
 IsCommand (commands.Order key targets days common request) = IsOrder key days targets request
+IsCommand (commands.Finalize order) = order < 2 ^ 64
+IsCommand (commands.Block key spki) = (length key < 2 ^ 8) × (length spki < 2 ^ 16)
+
+-- each name of the command keeps the rule of names
+abbrev pub HasNames : Command → Type 0
+HasNames (commands.Order key targets days common request) = AllByRecursion IsTarget targets
+HasNames command = Unit {0}
 
 -- a caller's id has at most 64 bytes
 abbrev pub IsCaller : Caller → Type 0
 IsCaller caller = length caller.id ≤ 64
+
+-- which commands a role has
+abbrev pub may_ask : Role → Command → Bool
+may_ask roles.Account (commands.Order key targets days common request) = true
+may_ask roles.Account (commands.Finalize order) = true
+may_ask roles.Operator (commands.Block key spki) = true
+may_ask role command = false

@@ -2,3 +2,4 @@ pub mod Name
 pub mod Spelling
 pub mod Reading
 pub mod Command
+pub mod Fits

@@ -1,13 +1,13 @@
 -- Reading an entry from left to right, with the first field that is cut off or breaks a rule. While fields are read, a fault is
 -- the number of bytes that were left where its field began.
-use Rattle.std.specs.Prelude.{◌≡◌, ℕ, zero, suc, ◌-◌, ◌≤◌, List, [], ◌∷◌, length, take, drop, Bool, true, false, Result, Ok, Err, nat_lt, ◌==◌, ◌&&◌, if◌then◌else◌}
+use Rattle.std.specs.Prelude.{◌≡◌, ℕ, zero, suc, ◌-◌, ◌≤◌, List, [], ◌∷◌, length, take, drop, Bool, true, false, Result, Ok, Err, nat_lt, ◌==◌, ◌&&◌, ◌||◌, if◌then◌else◌}
 use Rattle.std.specs.Int.{Width, w8, w16, w32, w64, byte_len, from_be_bytes}
 use Rattle.gate_base.specs.declared.name.Address.TheVariants.{V4, V6}
 use Rattle.gate_base.specs.declared.name.Target.{Target}
 use Rattle.gate_base.specs.declared.name.Target.TheVariants.{Dns, Ip}
 use Rattle.gate_entries.specs.declared.entry.Entry.{Entry}
 use Rattle.gate_entries.specs.declared.entry.What.{What}
-use Rattle.gate_entries.specs.declared.entry.What.TheVariants.{Settings, Order}
+use Rattle.gate_entries.specs.declared.entry.What.TheVariants.{Settings, Order, Send, Signed, Blocked}
 use Rattle.gate_entries.specs.declared.fault.EntryRead.{EntryRead}
 use Rattle.gate_entries.specs.declared.fault.EntryRead.TheVariants as reads
 use Rattle.gate_entries.specs.declared.fault.FieldFault.{FieldFault}
@@ -104,14 +104,37 @@ order_at bytes = do
 unfoldable pub settings_at : List ℕ → Read What
 settings_at bytes = counted_at w32 bytes >>= λ settings. Ok (Settings settings.0, settings.1)
 
+unfoldable pub send_at : List ℕ → Read What
+send_at bytes = do
+  order ← number_at w64 bytes
+  body ← counted_at w16 order.1
+  Ok (Send order.0 body.0, body.1)
+
+unfoldable pub signed_at : List ℕ → Read What
+signed_at bytes = do
+  order ← number_at w64 bytes
+  signature ← counted_at w16 order.1
+  Ok (Signed order.0 signature.0, signature.1)
+
+unfoldable pub blocked_at : List ℕ → Read What
+blocked_at bytes = do
+  key ← counted_at w8 bytes
+  spki ← counted_at w16 key.1
+  Ok (Blocked key.0 spki.0, spki.1)
+
 -- the fields of a kind; no other kind is known
 unfoldable pub what_at : ℕ → List ℕ → Read What
-what_at kind bytes = if kind == 1 then settings_at bytes else order_at bytes
+what_at kind bytes =
+    if kind == 1 then settings_at bytes else if kind == 6 then send_at bytes else if kind == 7 then signed_at bytes else if kind == 8 then blocked_at bytes
+    else order_at bytes
 
 -- the kind, of those that are known
+abbrev pub is_kind : ℕ → Bool
+is_kind kind = kind == 1 || kind == 2 || kind == 6 || kind == 7 || kind == 8
+
 unfoldable pub kind_at : List ℕ → Read ℕ
 kind_at [] = Err 0
-kind_at (kind ∷ rest) = if kind == 1 then Ok (1, rest) else if kind == 2 then Ok (2, rest) else Err (suc (length rest))
+kind_at (kind ∷ rest) = if is_kind kind then Ok (kind, rest) else Err (suc (length rest))
 
 -- the caller, who is nobody for settings
 abbrev pub caller_behind : ℕ → ℕ → List ℕ × List ℕ → Read (List ℕ)

@@ -8,7 +8,7 @@ use Rattle.gate_base.specs.declared.name.Target.{Target}
 use Rattle.gate_base.specs.declared.name.Target.TheVariants.{Dns, Ip}
 use Rattle.gate_entries.specs.declared.entry.Entry.{Entry}
 use Rattle.gate_entries.specs.declared.entry.What.{What}
-use Rattle.gate_entries.specs.declared.entry.What.TheVariants.{Settings, Order}
+use Rattle.gate_entries.specs.declared.entry.What.TheVariants.{Settings, Order, Send, Signed, Blocked}
 use Rattle.gate_entries.specs.Name.{name_text, is_name}
 
 -- how many bytes there are, and the bytes
@@ -36,12 +36,18 @@ targets_bytes targets = to_be_bytes w8 (length targets) ++ flat_map target_bytes
 abbrev pub kind_of : What → ℕ
 kind_of (Settings bytes) = 1
 kind_of (Order key common days targets request) = 2
+kind_of (Send order body) = 6
+kind_of (Signed order signature) = 7
+kind_of (Blocked key spki) = 8
 
 -- the fields of each kind
 abbrev pub what_bytes : What → List ℕ
 what_bytes (Settings bytes) = counted w32 bytes
 what_bytes (Order key common days targets request) =
     counted w8 key ++ truth common ++ to_be_bytes w16 days ++ targets_bytes targets ++ counted w16 request
+what_bytes (Send order body) = to_be_bytes w64 order ++ counted w16 body
+what_bytes (Signed order signature) = to_be_bytes w64 order ++ counted w16 signature
+what_bytes (Blocked key spki) = counted w8 key ++ counted w16 spki
 
 -- kind, number, moment, caller, and then the fields
 unfoldable pub entry_bytes : Entry → List ℕ
@@ -69,11 +75,14 @@ pub record IsOrder (key : List ℕ) (days : ℕ) (targets : List Target) (reques
 abbrev pub IsWhat : What → Type 0
 IsWhat (Settings bytes) = length bytes < 2 ^ 32
 IsWhat (Order key common days targets request) = IsOrder key days targets request
+IsWhat (Send order body) = (order < 2 ^ 64) × (length body < 2 ^ 16)
+IsWhat (Signed order signature) = (order < 2 ^ 64) × (length signature < 2 ^ 16)
+IsWhat (Blocked key spki) = (length key < 2 ^ 8) × (length spki < 2 ^ 16)
 
 -- settings have no caller
 abbrev pub HasCaller : List ℕ → What → Type 0
 HasCaller caller (Settings bytes) = caller ≡ []
-HasCaller caller (Order key common days targets request) = Unit {0}
+HasCaller caller what = Unit {0}
 
 -- an entry's greatest length
 abbrev pub most_bytes : ℕ

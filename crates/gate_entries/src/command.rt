@@ -1,10 +1,10 @@
-ghost use Rattle.std.specs.Prelude.{◌≡◌, ◌↔◌, ◌<◌, ◌^◌, IsTrue, IfOk};
+ghost use Rattle.std.specs.Prelude.{◌≡◌, IfOk, IfSome};
 ghost use Rattle.gate_entries.specs.Spelling.{IsEntry};
-ghost use Rattle.gate_entries.specs.Command.{key_of, what_of, entry_for, IsCommand, IsCaller};
+ghost use Rattle.gate_entries.specs.Command.{what_of, entry_for, may_ask, IsCommand, IsCaller};
 
 use crate::caller::Caller;
 use crate::entry::{Entry, What};
-use gate_base::{Bytes, Moment, NoMemory, Plain, Targets};
+use gate_base::{Bytes, Moment, NoMemory, Plain, Role, Targets};
 use std::alloc::Global;
 
 /// What a caller asks.
@@ -22,61 +22,43 @@ pub enum Command {
         /// The certificate request (RFC 2986), as DER.
         request: Bytes,
     },
+    /// That an order's certificate be signed, or told again.
+    Finalize {
+        /// The order's number.
+        order: u64,
+    },
+    /// That no certificate be signed for a key any more.
+    Block {
+        /// The caller's retry key.
+        key: Bytes,
+        /// The SubjectPublicKeyInfo (RFC 5280, section 4.1.2.7), as DER.
+        spki: Bytes,
+    },
 }
 
 impl Command {
-    /// The retry key.
-    pub fn key(&self) -> &Bytes
-        ensures { result.now ≡ key_of self.now }
+    /// Whether a role has the command: an account may order and finalize, an operator may block.
+    pub fn allowed(&self, role: Role) -> bool
+        ensures { result ≡ may_ask role self.now }
     {
         match self {
-            Command::Order { key, .. } => key,
+            Command::Order { .. } | Command::Finalize { .. } => role == Role::Account,
+            Command::Block { .. } => role == Role::Operator,
         }
     }
 
-    /// Whether an entry says what this command asks.
-    pub fn is_kept_as(&self, what: &What) -> bool
-        ensures { IsTrue result ↔ (what.now ≡ what_of self.now) }
-    {
-        match (self, what) {
-            (
-                Command::Order {
-                    key,
-                    targets,
-                    days,
-                    common,
-                    request,
-                },
-                What::Order {
-                    key: kept_key,
-                    common: kept_common,
-                    days: kept_days,
-                    targets: kept_targets,
-                    request: kept_request,
-                },
-            ) => {
-                kept_days == days
-                    && kept_common == common
-                    && kept_key.is_same(key)
-                    && kept_targets.is_same(targets)
-                    && kept_request.is_same(request)
-            }
-            (Command::Order { .. }, What::Settings { .. }) => false,
-        }
-    }
-
-    /// The entry that this command writes.
+    /// The entry that this command writes; None where the command doesn't say all of it.
     pub fn entry(
         &self,
         alloc: Global,
         number: u64,
         moment: Moment,
         caller: &Caller,
-    ) -> Result<Entry, NoMemory>
+    ) -> Result<Option<Entry>, NoMemory>
         requires command { IsCommand self.now }
         requires caller { IsCaller caller.now }
         ensures entry { IfOk result (λ entry. entry ≡ entry_for number moment caller.now self.now) }
-        ensures spelled { IfOk result IsEntry }
+        ensures spelled { IfOk result (λ entry. IfSome entry IsEntry) }
     {
         let entry = self.make_entry(alloc, number, moment, caller)?;
         Ok(entry)
@@ -88,30 +70,45 @@ impl Command {
         number: u64,
         moment: Moment,
         caller: &Caller,
-    ) -> Result<Entry, NoMemory>
+    ) -> Result<Option<Entry>, NoMemory>
         ensures { IfOk result (λ entry. entry ≡ entry_for number moment caller.now self.now) }
     {
         let caller = caller.id.copied(alloc)?;
-        let what = match self {
+        let what = match self.what(alloc)? {
+            Some(what) => what,
+            None => return Ok(None),
+        };
+        Ok(Some(Entry {
+            number,
+            moment,
+            caller,
+            what,
+        }))
+    }
+
+    /// What the command's entry says, where the command says all of it.
+    fn what(&self, alloc: Global) -> Result<Option<What>, NoMemory>
+        ensures { IfOk result (λ what. what ≡ what_of self.now) }
+    {
+        match self {
             Command::Order {
                 key,
                 targets,
                 days,
                 common,
                 request,
-            } => What::Order {
+            } => Ok(Some(What::Order {
                 key: key.copied(alloc)?,
                 common: *common,
                 days: *days,
                 targets: targets.copied(alloc)?,
                 request: request.copied(alloc)?,
-            },
-        };
-        Ok(Entry {
-            number,
-            moment,
-            caller,
-            what,
-        })
+            })),
+            Command::Finalize { .. } => Ok(None),
+            Command::Block { key, spki } => Ok(Some(What::Blocked {
+                key: key.copied(alloc)?,
+                spki: spki.copied(alloc)?,
+            })),
+        }
     }
 }

@@ -1,4 +1,6 @@
 ghost use Rattle.std.specs.Prelude.{◌≡◌, ◌≤◌, length, IfOk};
+ghost use Rattle.std.specs.Option.{option_copied};
+ghost use Rattle.gate_entries.specs.Command.{key_of};
 
 use gate_base::{Bytes, Moment, NoMemory, Targets};
 use std::alloc::Global;
@@ -29,6 +31,33 @@ pub enum What {
         targets: Targets,
         request: Bytes,
     },
+    /// A body is sent to the signer for the order with that number; recorded before it is sent.
+    Send {
+        order: u64,
+        body: Bytes,
+    },
+    /// The signer's signature of the body that the entry before sent.
+    Signed {
+        order: u64,
+        signature: Bytes,
+    },
+    /// No certificate is signed for the key from here on; the fields are those of the command.
+    Blocked {
+        key: Bytes,
+        spki: Bytes,
+    },
+}
+
+impl What {
+    /// The retry key, where the content stands under one.
+    pub fn key(&self) -> Option<&Bytes>
+        ensures { option_copied result ≡ key_of self.now }
+    {
+        match self {
+            What::Order { key, .. } | What::Blocked { key, .. } => Some(key),
+            What::Settings { .. } | What::Send { .. } | What::Signed { .. } => None,
+        }
+    }
 }
 
 impl Entry {

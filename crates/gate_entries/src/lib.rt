@@ -5,7 +5,9 @@ mod caller;
 mod command;
 mod entry;
 mod fault;
+mod fits;
 mod law;
+mod length;
 mod plain;
 mod reading;
 mod reply;
@@ -17,8 +19,9 @@ pub use entry::{Entry, What};
 pub use fault::{EntryFault, EntryRead};
 pub use gate_base::Role;
 pub use law::one_spelling;
+pub use length::entry_len;
 pub use reading::{read_entry, read_name_text};
-pub use reply::Reply;
+pub use reply::{Reply, Why, Whys};
 pub use writing::write_entry;
 
 #[cfg(test)]

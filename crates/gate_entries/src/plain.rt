@@ -30,8 +30,28 @@ impl Plain for What {
                     && targets.is_same(other_targets)
                     && request.is_same(other_request)
             }
-            (What::Settings { .. }, What::Order { .. }) => false,
-            (What::Order { .. }, What::Settings { .. }) => false,
+            (
+                What::Send { order, body },
+                What::Send {
+                    order: other_order,
+                    body: other_body,
+                },
+            ) => order == other_order && body.is_same(other_body),
+            (
+                What::Signed { order, signature },
+                What::Signed {
+                    order: other_order,
+                    signature: other_signature,
+                },
+            ) => order == other_order && signature.is_same(other_signature),
+            (
+                What::Blocked { key, spki },
+                What::Blocked {
+                    key: other_key,
+                    spki: other_spki,
+                },
+            ) => key.is_same(other_key) && spki.is_same(other_spki),
+            (_, _) => false,
         }
     }
 
@@ -52,6 +72,18 @@ impl Plain for What {
                 days: *days,
                 targets: targets.copied(alloc)?,
                 request: request.copied(alloc)?,
+            }),
+            What::Send { order, body } => Ok(What::Send {
+                order: *order,
+                body: body.copied(alloc)?,
+            }),
+            What::Signed { order, signature } => Ok(What::Signed {
+                order: *order,
+                signature: signature.copied(alloc)?,
+            }),
+            What::Blocked { key, spki } => Ok(What::Blocked {
+                key: key.copied(alloc)?,
+                spki: spki.copied(alloc)?,
             }),
         }
     }

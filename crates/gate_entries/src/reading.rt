@@ -5,7 +5,7 @@ ghost use Rattle.gate_base.specs.declared.name.Target.TheVariants.{Dns};
 ghost use Rattle.gate_entries.specs.Name.{labels_of, name_text, is_name, is_label, is_label_byte};
 ghost use Rattle.gate_entries.specs.Spelling.{entry_bytes, IsTarget, IsEntry};
 ghost use Rattle.gate_entries.specs.declared.entry.Entry.{Entry as EntryValue};
-ghost use Rattle.gate_entries.specs.Reading.{Gives, Within, bytes_at, number_at, counted_at, truth_at, labels_at, name_at, v4_at, v6_at, target_at, targets_at, order_at, settings_at, what_at, kind_at, caller_at, fields_at, whole_entry, entry_of, TellsEntry};
+ghost use Rattle.gate_entries.specs.Reading.{Gives, Within, bytes_at, number_at, counted_at, truth_at, labels_at, name_at, v4_at, v6_at, target_at, targets_at, order_at, settings_at, send_at, signed_at, blocked_at, what_at, is_kind, kind_at, caller_at, fields_at, whole_entry, entry_of, TellsEntry};
 
 use crate::entry::{Entry, What};
 use crate::fault::{EntryFault, EntryRead, FieldFault};
@@ -75,10 +75,16 @@ fn read_kind(bytes: &[u8]) -> Result<(u8, &[u8]), FieldFault>
 {
     match bytes {
         [] => Err(FieldFault::Left(0)),
-        [1, rest @ ..] => Ok((1, rest)),
-        [2, rest @ ..] => Ok((2, rest)),
+        [kind, rest @ ..] if is_kind(*kind) => Ok((*kind, rest)),
         [_, ..] => Err(FieldFault::Left(bytes.len())),
     }
+}
+
+/// Whether entries have such a kind.
+fn is_kind(kind: u8) -> bool
+    ensures { result ≡ is_kind kind }
+{
+    matches!(kind, 1 | 2 | 6 | 7 | 8)
 }
 
 #[tactic(auto, unfolding(crate::specs::Reading::caller_at))]
@@ -98,10 +104,12 @@ fn read_what(alloc: Global, kind: u8, bytes: &[u8]) -> Result<(What, &[u8]), Fie
     ensures exact { Gives (λ x. (x.0, x.1.now)) result (what_at kind bytes.now) }
     ensures within { Within (λ x. x.1.now) bytes.now result }
 {
-    if kind == 1 {
-        read_settings(alloc, bytes)
-    } else {
-        read_order(alloc, bytes)
+    match kind {
+        1 => read_settings(alloc, bytes),
+        6 => read_send(alloc, bytes),
+        7 => read_signed(alloc, bytes),
+        8 => read_blocked(alloc, bytes),
+        _ => read_order(alloc, bytes),
     }
 }
 
@@ -133,6 +141,36 @@ fn read_order(alloc: Global, bytes: &[u8]) -> Result<(What, &[u8]), FieldFault>
         request,
     };
     Ok((order, rest))
+}
+
+#[tactic(auto, unfolding(crate::specs::Reading::send_at))]
+fn read_send(alloc: Global, bytes: &[u8]) -> Result<(What, &[u8]), FieldFault>
+    ensures exact { Gives (λ x. (x.0, x.1.now)) result (send_at bytes.now) }
+    ensures within { Within (λ x. x.1.now) bytes.now result }
+{
+    let (order, rest) = read_u64(bytes)?;
+    let (body, rest) = read_counted16(alloc, rest)?;
+    Ok((What::Send { order, body }, rest))
+}
+
+#[tactic(auto, unfolding(crate::specs::Reading::signed_at))]
+fn read_signed(alloc: Global, bytes: &[u8]) -> Result<(What, &[u8]), FieldFault>
+    ensures exact { Gives (λ x. (x.0, x.1.now)) result (signed_at bytes.now) }
+    ensures within { Within (λ x. x.1.now) bytes.now result }
+{
+    let (order, rest) = read_u64(bytes)?;
+    let (signature, rest) = read_counted16(alloc, rest)?;
+    Ok((What::Signed { order, signature }, rest))
+}
+
+#[tactic(auto, unfolding(crate::specs::Reading::blocked_at))]
+fn read_blocked(alloc: Global, bytes: &[u8]) -> Result<(What, &[u8]), FieldFault>
+    ensures exact { Gives (λ x. (x.0, x.1.now)) result (blocked_at bytes.now) }
+    ensures within { Within (λ x. x.1.now) bytes.now result }
+{
+    let (key, rest) = read_counted8(alloc, bytes)?;
+    let (spki, rest) = read_counted16(alloc, rest)?;
+    Ok((What::Blocked { key, spki }, rest))
 }
 
 fn read_targets(alloc: Global, count: u8, bytes: &[u8]) -> Result<(Targets, &[u8]), FieldFault>

@@ -37,6 +37,9 @@ fn put_kind(what: &What, out: &mut Vec<u8>) -> Result<(), NoMemory>
     let kind = match what {
         What::Settings { .. } => 1,
         What::Order { .. } => 2,
+        What::Send { .. } => 6,
+        What::Signed { .. } => 7,
+        What::Blocked { .. } => 8,
     };
     out.push(kind)?;
     Ok(())
@@ -67,6 +70,18 @@ fn put_what(what: &What, out: &mut Vec<u8>) -> Result<(), NoMemory>
             out.extend_from_slice(&days.to_be_bytes())?;
             put_targets(targets, out)?;
             put_counted16(request, out)
+        }
+        What::Send { order, body } => {
+            put_u64(*order, out)?;
+            put_counted16(body, out)
+        }
+        What::Signed { order, signature } => {
+            put_u64(*order, out)?;
+            put_counted16(signature, out)
+        }
+        What::Blocked { key, spki } => {
+            put_counted8(key, out)?;
+            put_counted16(spki, out)
         }
     }
 }

@@ -1,0 +1,41 @@
+-- Which commands have a size that can be spelled.
+use Rattle.std.specs.Prelude.{ℕ, ◌+◌, ◌<◌, ◌≤◌, ◌^◌, List, length}
+use Rattle.std.specs.List.{AllByRecursion}
+use Rattle.gate_base.specs.declared.name.Target.{Target}
+use Rattle.gate_base.specs.declared.name.Target.TheVariants.{Dns, Ip}
+use Rattle.gate_entries.specs.declared.command.Command.{Command}
+use Rattle.gate_entries.specs.declared.command.Command.TheVariants as commands
+use Rattle.gate_entries.specs.declared.entry.What.TheVariants as whats
+use Rattle.gate_entries.specs.Name.{name_text}
+use Rattle.gate_entries.specs.Spelling.{what_bytes, most_bytes}
+
+-- a name's text is counted by one byte
+abbrev pub TargetFits : Target → Type 0
+TargetFits (Dns name) = length (name_text name.labels) < 2 ^ 8
+TargetFits (Ip address) = Unit {0}
+
+pub record OrderFits (key : List ℕ) (targets : List Target) (request : List ℕ) : Type 0 where
+  pub key_fits : length key < 2 ^ 8
+  pub count : length targets < 2 ^ 8
+  pub each : AllByRecursion TargetFits targets
+  pub request_fits : length request < 2 ^ 16
+
+pub record BlockFits (key spki : List ℕ) : Type 0 where
+  pub key_fits : length key < 2 ^ 8
+  pub spki_fits : length spki < 2 ^ 16
+
+abbrev pub FieldsFit : Command → Type 0
+FieldsFit (commands.Order key targets days common request) = OrderFits key targets request
+FieldsFit (commands.Finalize order) = Unit {0}
+FieldsFit (commands.Block key spki) = BlockFits key spki
+
+-- how many bytes the fields take that the command gives its entry
+abbrev pub given_length : Command → ℕ
+given_length (commands.Order key targets days common request) = length (what_bytes (whats.Order key common days targets request))
+given_length (commands.Finalize order) = 8
+given_length (commands.Block key spki) = length (what_bytes (whats.Blocked key spki))
+
+-- each field fits its count, and the entry fits with its kind, number and moment and with a caller of 64 bytes
+pub record Fits (command : Command) : Type 0 where
+  pub fields : FieldsFit command
+  pub size : 17 + (2 + 64) + given_length command ≤ most_bytes
