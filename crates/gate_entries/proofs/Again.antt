@@ -12,10 +12,10 @@ use Rattle.gate_base.specs.declared.name.Target.{Target}
 use Rattle.gate_base.specs.declared.name.Target.TheVariants.{Dns, Ip}
 use Rattle.gate_entries.specs.declared.entry.Entry.{Entry}
 use Rattle.gate_entries.specs.declared.entry.What.{What}
-use Rattle.gate_entries.specs.declared.entry.What.TheVariants.{Settings, Order}
+use Rattle.gate_entries.specs.declared.entry.What.TheVariants.{Settings, Order, Send, Signed, Blocked}
 use Rattle.gate_entries.specs.Name.{name_text, labels_of, is_label, is_name}
 use Rattle.gate_entries.specs.Spelling.{counted, truth, target_bytes, targets_bytes, kind_of, what_bytes, entry_bytes, IsTarget, IsWhat, HasCaller, most_bytes, IsEntry}
-use Rattle.gate_entries.specs.Reading.{◌>>=◌, bytes_at, number_at, bytes_behind, counted_at, truth_at, labels_behind, labels_at, name_at, v4_at, v6_at, target_at, targets_at, order_at, settings_at, what_at, kind_at, caller_behind, caller_at, fields_at, whole_entry}
+use Rattle.gate_entries.specs.Reading.{◌>>=◌, bytes_at, number_at, bytes_behind, counted_at, truth_at, labels_behind, labels_at, name_at, v4_at, v6_at, target_at, targets_at, order_at, settings_at, send_at, signed_at, blocked_at, what_at, kind_at, caller_behind, caller_at, fields_at, whole_entry}
 use Rattle.gate_entries.proofs.Names.{left_holds, right_holds, labels_of-name_text}
 use Rattle.gate_entries.proofs.Sizes.{name_size}
 use Rattle.gate_entries.proofs.Fields.{IsWide, wide8, wide16, wide32, wide64}
@@ -100,7 +100,7 @@ pub pieces_behind : (a b c d e rest : List ℕ) → a ++ b ++ c ++ d ++ e ++ res
 pieces_behind a b c d e rest = simp append_assoc
 
 what_again : (what : What) (rest : List ℕ) → IsWhat what → what_at (kind_of what) (what_bytes what ++ rest) ≡ Ok (what, rest)
-unfolding what_at settings_at order_at
+unfolding what_at settings_at order_at send_at signed_at blocked_at
 what_again (Settings bytes) rest is =
     bind_is (counted_at w32 (counted w32 bytes ++ rest)) (bytes, rest) _ (Ok (Settings bytes, rest)) (counted_again w32 (2 ^ 32) wide32 bytes rest is) refl
 what_again (Order key common days targets request) rest is =
@@ -119,11 +119,32 @@ what_again (Order key common days targets request) rest is =
     (bind_is (number_at w8 r3) (length targets, r4) _ whole (number_again w8 (2 ^ 8) wide8 (length targets) r4 is.are_targets.count)
     (bind_is (targets_at (length targets) r4) (targets, r5) _ whole (targets_again targets r5 is.are_targets.each)
     (bind_is (counted_at w16 r5) (request, rest) _ whole (counted_again w16 (2 ^ 16) wide16 request rest is.request_fits) refl)))))
+what_again (Send order body) rest is =
+    let r1 = counted w16 body ++ rest in
+    let whole : Result (What × List ℕ) ℕ = Ok (Send order body, rest) in
+    ap send_at (append_assoc (to_be_bytes w64 order) (counted w16 body) rest)
+    ∙ bind_is (number_at w64 (to_be_bytes w64 order ++ r1)) (order, r1) _ whole (number_again w64 (2 ^ 64) wide64 order r1 is.0)
+    (bind_is (counted_at w16 r1) (body, rest) _ whole (counted_again w16 (2 ^ 16) wide16 body rest is.1) refl)
+what_again (Signed order signature) rest is =
+    let r1 = counted w16 signature ++ rest in
+    let whole : Result (What × List ℕ) ℕ = Ok (Signed order signature, rest) in
+    ap signed_at (append_assoc (to_be_bytes w64 order) (counted w16 signature) rest)
+    ∙ bind_is (number_at w64 (to_be_bytes w64 order ++ r1)) (order, r1) _ whole (number_again w64 (2 ^ 64) wide64 order r1 is.0)
+    (bind_is (counted_at w16 r1) (signature, rest) _ whole (counted_again w16 (2 ^ 16) wide16 signature rest is.1) refl)
+what_again (Blocked key spki) rest is =
+    let r1 = counted w16 spki ++ rest in
+    let whole : Result (What × List ℕ) ℕ = Ok (Blocked key spki, rest) in
+    ap blocked_at (append_assoc (counted w8 key) (counted w16 spki) rest)
+    ∙ bind_is (counted_at w8 (counted w8 key ++ r1)) (key, r1) _ whole (counted_again w8 (2 ^ 8) wide8 key r1 is.0)
+    (bind_is (counted_at w16 r1) (spki, rest) _ whole (counted_again w16 (2 ^ 16) wide16 spki rest is.1) refl)
 
 pub kind_again : (what : What) (rest : List ℕ) → kind_at (kind_of what ∷ rest) ≡ Ok (kind_of what, rest)
 unfolding kind_at
 kind_again (Settings bytes) rest = refl
 kind_again (Order key common days targets request) rest = refl
+kind_again (Send order body) rest = refl
+kind_again (Signed order signature) rest = refl
+kind_again (Blocked key spki) rest = refl
 
 caller_again : (caller : List ℕ) (what : What) (rest : List ℕ) → length caller < 2 ^ 16 → HasCaller caller what
     → caller_at (kind_of what) (counted w16 caller ++ rest) ≡ Ok (caller, rest)
@@ -133,6 +154,15 @@ caller_again caller (Settings bytes) rest fits from =
     (counted_again w16 (2 ^ 16) wide16 caller rest fits) (rw from refl)
 caller_again caller (Order key common days targets request) rest fits from =
     bind_is (counted_at w16 (counted w16 caller ++ rest)) (caller, rest) (caller_behind 2 (length (counted w16 caller ++ rest))) (Ok (caller, rest))
+    (counted_again w16 (2 ^ 16) wide16 caller rest fits) refl
+caller_again caller (Send order body) rest fits from =
+    bind_is (counted_at w16 (counted w16 caller ++ rest)) (caller, rest) (caller_behind 6 (length (counted w16 caller ++ rest))) (Ok (caller, rest))
+    (counted_again w16 (2 ^ 16) wide16 caller rest fits) refl
+caller_again caller (Signed order signature) rest fits from =
+    bind_is (counted_at w16 (counted w16 caller ++ rest)) (caller, rest) (caller_behind 7 (length (counted w16 caller ++ rest))) (Ok (caller, rest))
+    (counted_again w16 (2 ^ 16) wide16 caller rest fits) refl
+caller_again caller (Blocked key spki) rest fits from =
+    bind_is (counted_at w16 (counted w16 caller ++ rest)) (caller, rest) (caller_behind 8 (length (counted w16 caller ++ rest))) (Ok (caller, rest))
     (counted_again w16 (2 ^ 16) wide16 caller rest fits) refl
 
 fields_again : (entry : Entry) → IsEntry entry → fields_at (entry_bytes entry) ≡ Ok (entry, [])

@@ -1,5 +1,5 @@
 -- What is read as an entry is spelled so.
-use Rattle.std.proofs.Common.{◌≡◌, ℕ, suc, ◌^◌, ◌<◌, ◌≤◌, Bool, true, false, ◌&&◌, cond, eqb, ltb, List, [], ◌∷◌, ◌++◌, length, Result, Ok, Err, refl, sym, ap, subst, ◌∙◌, append-nil, arith, ◌⊎◌, inl, inr}
+use Rattle.std.proofs.Common.{◌≡◌, ℕ, suc, ◌^◌, ◌<◌, ◌≤◌, Bool, true, false, ◌&&◌, ◌||◌, cond, eqb, ltb, List, [], ◌∷◌, ◌++◌, length, Result, Ok, Err, refl, sym, ap, subst, ◌∙◌, append-nil, arith, inl, inr}
 use Rattle.std.specs.List.{flat_map}
 use Rattle.std.specs.Int.{w8, w16, w32, w64, to_be_bytes}
 use Rattle.std.proofs.lemmas.Bool.{eqb-true, eq-eqb, ltb-false}
@@ -7,9 +7,9 @@ use Rattle.std.proofs.lemmas.List.{nil_from_length}
 use Rattle.gate_base.specs.declared.name.Target.{Target}
 use Rattle.gate_entries.specs.declared.entry.Entry.{Entry}
 use Rattle.gate_entries.specs.declared.entry.What.{What}
-use Rattle.gate_entries.specs.declared.entry.What.TheVariants.{Settings, Order}
+use Rattle.gate_entries.specs.declared.entry.What.TheVariants.{Settings, Order, Send, Signed, Blocked}
 use Rattle.gate_entries.specs.Spelling.{counted, target_bytes, targets_bytes, kind_of, what_bytes, entry_bytes, IsWhat, HasCaller, most_bytes, IsEntry}
-use Rattle.gate_entries.specs.Reading.{◌>>=◌, number_at, counted_at, truth_at, targets_at, order_at, settings_at, what_at, kind_at, caller_behind, caller_at, fields_at, with_no_rest, whole_entry}
+use Rattle.gate_entries.specs.Reading.{◌>>=◌, number_at, counted_at, truth_at, targets_at, order_at, settings_at, send_at, signed_at, blocked_at, what_at, is_kind, kind_at, caller_behind, caller_at, fields_at, with_no_rest, whole_entry}
 use Rattle.gate_entries.proofs.Fields.{IsBytes, IsBytes-rest, bind_ok, guard_ok, guard_met, as_made, Takes, takes_both, wide8, wide16, wide32, wide64, number_takes, counted_takes, truth_takes}
 use Rattle.gate_entries.proofs.Targets.{targets_take, chosen, only_met}
 
@@ -63,30 +63,77 @@ order_takes bytes x small e =
       refl {a = 2},
     )
 
-what_takes : (kind : ℕ) (bytes : List ℕ) (x : What × List ℕ) → IsBytes bytes → (kind ≡ 1) ⊎ (kind ≡ 2) → what_at kind bytes ≡ Ok x → TakesWhat kind bytes x
+send_takes : (bytes : List ℕ) (x : What × List ℕ) → IsBytes bytes → send_at bytes ≡ Ok x → TakesWhat 6 bytes x
+unfolding send_at
+send_takes bytes x small e =
+    let order = bind_ok (number_at w64 bytes) _ x e in
+    let body = bind_ok (counted_at w16 order.0.1) _ x order.2 in
+    let of_order = number_takes w64 (2 ^ 64) wide64 bytes order.0 small order.1 in
+    let of_body = counted_takes w16 (2 ^ 16) wide16 order.0.1 body.0 of_order.0.small body.1 in
+    let made : What × List ℕ = (Send order.0.0 body.0.0, body.0.1) in
+    as_made (TakesWhat 6 bytes) made x body.2 (takes_both of_order.0 of_body.0, (of_order.1, of_body.1), refl {a = 6})
+
+signed_takes : (bytes : List ℕ) (x : What × List ℕ) → IsBytes bytes → signed_at bytes ≡ Ok x → TakesWhat 7 bytes x
+unfolding signed_at
+signed_takes bytes x small e =
+    let order = bind_ok (number_at w64 bytes) _ x e in
+    let signature = bind_ok (counted_at w16 order.0.1) _ x order.2 in
+    let of_order = number_takes w64 (2 ^ 64) wide64 bytes order.0 small order.1 in
+    let of_signature = counted_takes w16 (2 ^ 16) wide16 order.0.1 signature.0 of_order.0.small signature.1 in
+    let made : What × List ℕ = (Signed order.0.0 signature.0.0, signature.0.1) in
+    as_made (TakesWhat 7 bytes) made x signature.2 (takes_both of_order.0 of_signature.0, (of_order.1, of_signature.1), refl {a = 7})
+
+blocked_takes : (bytes : List ℕ) (x : What × List ℕ) → IsBytes bytes → blocked_at bytes ≡ Ok x → TakesWhat 8 bytes x
+unfolding blocked_at
+blocked_takes bytes x small e =
+    let key = bind_ok (counted_at w8 bytes) _ x e in
+    let spki = bind_ok (counted_at w16 key.0.1) _ x key.2 in
+    let of_key = counted_takes w8 (2 ^ 8) wide8 bytes key.0 small key.1 in
+    let of_spki = counted_takes w16 (2 ^ 16) wide16 key.0.1 spki.0 of_key.0.small spki.1 in
+    let made : What × List ℕ = (Blocked key.0.0 spki.0.0, spki.0.1) in
+    as_made (TakesWhat 8 bytes) made x spki.2 (takes_both of_key.0 of_spki.0, (of_key.1, of_spki.1), refl {a = 8})
+
+clash : false ≡ true → ⊥
+clash e = cc e
+
+two : (is1 is2 is6 is7 is8 : Bool) → (is1 || is2 || is6 || is7 || is8) ≡ true → is1 ≡ false → is6 ≡ false → is7 ≡ false → is8 ≡ false → is2 ≡ true
+two is1 true is6 is7 is8 known not1 not6 not7 not8 = refl
+two is1 false is6 is7 is8 known not1 not6 not7 not8 = absurd (clash (sym (rw (not1, not6, not7, not8) refl) ∙ known))
+
+-- the kind that is none of the others
+is_order : (kind : ℕ) → is_kind kind ≡ true → eqb kind 1 ≡ false → eqb kind 6 ≡ false → eqb kind 7 ≡ false → eqb kind 8 ≡ false → kind ≡ 2
+is_order kind known not1 not6 not7 not8 = eqb-true kind 2 (two (eqb kind 1) (eqb kind 2) (eqb kind 6) (eqb kind 7) (eqb kind 8) known not1 not6 not7 not8)
+
+as_kind : (kind known : ℕ) (bytes : List ℕ) (x : What × List ℕ) → eqb kind known ≡ true → TakesWhat known bytes x → TakesWhat kind bytes x
+as_kind kind known bytes x same takes = subst (λ (k : ℕ). TakesWhat k bytes x) (sym (eqb-true kind known same)) takes
+
+what_takes : (kind : ℕ) (bytes : List ℕ) (x : What × List ℕ) → IsBytes bytes → is_kind kind ≡ true → what_at kind bytes ≡ Ok x → TakesWhat kind bytes x
 unfolding what_at
 what_takes kind bytes x small known e =
-    elim known [
-      | inl is1 ↦ subst (λ (k : ℕ). TakesWhat k bytes x) (sym is1) (settings_takes bytes x small (sym (ap (λ (k : ℕ). what_at k bytes) is1) ∙ e))
-      | inr is2 ↦ subst (λ (k : ℕ). TakesWhat k bytes x) (sym is2) (order_takes bytes x small (sym (ap (λ (k : ℕ). what_at k bytes) is2) ∙ e))
+    elim (chosen (eqb kind 1) (settings_at bytes) _ (Ok x) e) [
+      | inl is1 ↦ as_kind kind 1 bytes x is1.0 (settings_takes bytes x small is1.1)
+      | inr not1 ↦ elim (chosen (eqb kind 6) (send_at bytes) _ (Ok x) not1.1) [
+        | inl is6 ↦ as_kind kind 6 bytes x is6.0 (send_takes bytes x small is6.1)
+        | inr not6 ↦ elim (chosen (eqb kind 7) (signed_at bytes) _ (Ok x) not6.1) [
+          | inl is7 ↦ as_kind kind 7 bytes x is7.0 (signed_takes bytes x small is7.1)
+          | inr not7 ↦ elim (chosen (eqb kind 8) (blocked_at bytes) (order_at bytes) (Ok x) not7.1) [
+            | inl is8 ↦ as_kind kind 8 bytes x is8.0 (blocked_takes bytes x small is8.1)
+            | inr not8 ↦
+                subst (λ (k : ℕ). TakesWhat k bytes x) (sym (is_order kind known not1.0 not6.0 not7.0 not8.0)) (order_takes bytes x small not8.1)
+          ]
+        ]
+      ]
     ]
 
 -- ---- the fields before it
 
-kind_takes : (bytes : List ℕ) (x : ℕ × List ℕ) → IsBytes bytes → kind_at bytes ≡ Ok x → Takes bytes (x.0 ∷ []) x.1 × ((x.0 ≡ 1) ⊎ (x.0 ≡ 2))
+kind_takes : (bytes : List ℕ) (x : ℕ × List ℕ) → IsBytes bytes → kind_at bytes ≡ Ok x → Takes bytes (x.0 ∷ []) x.1 × (is_kind x.0 ≡ true)
 unfolding kind_at
 kind_takes [] x small e = absurd cc
 kind_takes (kind ∷ bytes) x small e =
-    let rest = IsBytes-rest kind bytes small in
-    elim (chosen (eqb kind 1) (Ok (1, bytes)) _ (Ok x) e) [
-      | inl is1 ↦
-          as_made (λ (y : ℕ × List ℕ). Takes (kind ∷ bytes) (y.0 ∷ []) y.1 × ((y.0 ≡ 1) ⊎ (y.0 ≡ 2))) (1, bytes) x is1.1
-          (record { parts = ap (λ (k : ℕ). k ∷ bytes) (eqb-true kind 1 is1.0); small = rest }, inl refl)
-      | inr not1 ↦
-          let g = only_met (eqb kind 2) (suc (length bytes)) (Ok (2, bytes)) x not1.1 in
-          as_made (λ (y : ℕ × List ℕ). Takes (kind ∷ bytes) (y.0 ∷ []) y.1 × ((y.0 ≡ 1) ⊎ (y.0 ≡ 2))) (2, bytes) x g.1
-          (record { parts = ap (λ (k : ℕ). k ∷ bytes) (eqb-true kind 2 g.0); small = rest }, inr refl)
-    ]
+    let g = only_met (is_kind kind) (suc (length bytes)) (Ok (kind, bytes)) x e in
+    as_made (λ (y : ℕ × List ℕ). Takes (kind ∷ bytes) (y.0 ∷ []) y.1 × (is_kind y.0 ≡ true)) (kind, bytes) x g.1
+    (record { parts = refl; small = IsBytes-rest kind bytes small }, g.0)
 
 second_fails : (x y : Bool) → (x && y) ≡ false → x ≡ true → y ≡ false
 second_fails true y both first = both
@@ -117,6 +164,9 @@ record AreFields (entry : Entry) : Type 0 where
 has_caller : (caller : List ℕ) (what : What) → (kind_of what ≡ 1 → caller ≡ []) → HasCaller caller what
 has_caller caller (Settings bytes) nobody = nobody refl
 has_caller caller (Order key common days targets request) nobody = tt
+has_caller caller (Send order body) nobody = tt
+has_caller caller (Signed order signature) nobody = tt
+has_caller caller (Blocked key spki) nobody = tt
 
 fields_take : (bytes : List ℕ) (x : Entry × List ℕ) → IsBytes bytes → fields_at bytes ≡ Ok x → Takes bytes (entry_bytes x.0) x.1 × AreFields x.0
 unfolding fields_at entry_bytes

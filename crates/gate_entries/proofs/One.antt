@@ -9,7 +9,7 @@ use Rattle.gate_base.specs.declared.name.Target.{Target}
 use Rattle.gate_base.specs.declared.name.Target.TheVariants.{Dns, Ip}
 use Rattle.gate_entries.specs.declared.entry.Entry.{Entry}
 use Rattle.gate_entries.specs.declared.entry.What.{What}
-use Rattle.gate_entries.specs.declared.entry.What.TheVariants.{Settings, Order}
+use Rattle.gate_entries.specs.declared.entry.What.TheVariants.{Settings, Order, Send, Signed, Blocked}
 use Rattle.gate_entries.specs.Name.{name_text, is_name}
 use Rattle.gate_entries.specs.Spelling.{counted, truth, target_bytes, targets_bytes, kind_of, what_bytes, entry_bytes, IsTarget, IsWhat, IsEntry}
 use Rattle.gate_entries.specs.Reading.{bytes_at, number_at, counted_at, truth_at}
@@ -86,8 +86,6 @@ one_targets (target ∷ left) (next ∷ right) s t size are1 are2 same =
 
 one_what : (left right : What) → kind_of left ≡ kind_of right → IsWhat left → IsWhat right → what_bytes left ++ [] ≡ what_bytes right ++ [] → left ≡ right
 one_what (Settings left) (Settings right) kind is1 is2 same = ap Settings (one_counted w32 (2 ^ 32) wide32 left right [] [] is1 is2 same).0
-one_what (Settings left) (Order key common days targets request) kind is1 is2 same = absurd (omega (arith, kind))
-one_what (Order key common days targets request) (Settings right) kind is1 is2 same = absurd (omega (arith, kind))
 one_what (Order key1 common1 days1 targets1 request1) (Order key2 common2 days2 targets2 request2) kind is1 is2 same =
     let r1 = counted w16 request1 ++ [] in
     let r2 = counted w16 request2 ++ [] in
@@ -106,6 +104,31 @@ one_what (Order key1 common1 days1 targets1 request1) (Order key2 common2 days2 
     let targets = one_targets targets1 targets2 r1 r2 count.0 is1.are_targets.each is2.are_targets.each count.1 in
     let request = one_counted w16 (2 ^ 16) wide16 request1 request2 [] [] is1.request_fits is2.request_fits targets.1 in
     rw (key.0, common.0, days.0, targets.0, request.0) refl
+one_what (Send order1 body1) (Send order2 body2) kind is1 is2 same =
+    let r1 = counted w16 body1 ++ [] in
+    let r2 = counted w16 body2 ++ [] in
+    let apart : to_be_bytes w64 order1 ++ r1 ≡ to_be_bytes w64 order2 ++ r2 =
+    sym (append_assoc (to_be_bytes w64 order1) (counted w16 body1) []) ∙ same ∙ append_assoc (to_be_bytes w64 order2) (counted w16 body2) [] in
+    let order = one_number w64 (2 ^ 64) wide64 order1 order2 r1 r2 is1.0 is2.0 apart in
+    let body = one_counted w16 (2 ^ 16) wide16 body1 body2 [] [] is1.1 is2.1 order.1 in
+    rw (order.0, body.0) refl
+one_what (Signed order1 signature1) (Signed order2 signature2) kind is1 is2 same =
+    let r1 = counted w16 signature1 ++ [] in
+    let r2 = counted w16 signature2 ++ [] in
+    let apart : to_be_bytes w64 order1 ++ r1 ≡ to_be_bytes w64 order2 ++ r2 =
+    sym (append_assoc (to_be_bytes w64 order1) (counted w16 signature1) []) ∙ same ∙ append_assoc (to_be_bytes w64 order2) (counted w16 signature2) [] in
+    let order = one_number w64 (2 ^ 64) wide64 order1 order2 r1 r2 is1.0 is2.0 apart in
+    let signature = one_counted w16 (2 ^ 16) wide16 signature1 signature2 [] [] is1.1 is2.1 order.1 in
+    rw (order.0, signature.0) refl
+one_what (Blocked key1 spki1) (Blocked key2 spki2) kind is1 is2 same =
+    let r1 = counted w16 spki1 ++ [] in
+    let r2 = counted w16 spki2 ++ [] in
+    let apart : counted w8 key1 ++ r1 ≡ counted w8 key2 ++ r2 =
+    sym (append_assoc (counted w8 key1) (counted w16 spki1) []) ∙ same ∙ append_assoc (counted w8 key2) (counted w16 spki2) [] in
+    let key = one_counted w8 (2 ^ 8) wide8 key1 key2 r1 r2 is1.0 is2.0 apart in
+    let spki = one_counted w16 (2 ^ 16) wide16 spki1 spki2 [] [] is1.1 is2.1 key.1 in
+    rw (key.0, spki.0) refl
+one_what left right kind is1 is2 same = absurd (omega (arith, kind))
 
 abbrev entry_with : ℕ → ℕ → List ℕ → What → Entry
 entry_with number moment caller what = record { number = number; moment = record { 0 = moment }; caller = caller; what = what }

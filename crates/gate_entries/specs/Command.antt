@@ -2,6 +2,7 @@
 use Rattle.std.specs.Prelude.{ℕ, ◌<◌, ◌≤◌, ◌^◌, List, [], length, Bool, true, false, Option, Some, None, option_map}
 use Rattle.std.specs.List.{AllByRecursion}
 use Rattle.gate_base.specs.declared.moment.Moment.{Moment}
+use Rattle.gate_base.specs.declared.name.Target.{Target}
 use Rattle.gate_base.specs.declared.profile.Role.{Role}
 use Rattle.gate_base.specs.declared.profile.Role.TheVariants as roles
 use Rattle.gate_entries.specs.declared.caller.Caller.{Caller}
@@ -10,7 +11,7 @@ use Rattle.gate_entries.specs.declared.command.Command.TheVariants as commands
 use Rattle.gate_entries.specs.declared.entry.Entry.{Entry}
 use Rattle.gate_entries.specs.declared.entry.What.{What}
 use Rattle.gate_entries.specs.declared.entry.What.TheVariants as whats
-use Rattle.gate_entries.specs.Spelling.{IsOrder, IsTarget}
+use Rattle.gate_entries.specs.Spelling.{IsTarget, AreTargets}
 
 -- the retry key under which a caller's entry stands
 abbrev pub key_of : What → Option (List ℕ)
@@ -35,11 +36,20 @@ entry_for number moment caller command = option_map (entry_with number moment ca
 abbrev pub settings_entry : ℕ → Moment → List ℕ → Entry
 settings_entry number moment bytes = entry_with number moment [] (whats.Settings bytes)
 
--- the command's fields have a spelling
+-- the fields have a spelling
+pub record IsAskedOrder (key : List ℕ) (targets : List Target) (request : List ℕ) : Type 0 where
+  pub key_fits : length key < 2 ^ 8
+  pub are_targets : AreTargets targets
+  pub request_fits : length request < 2 ^ 16
+
+pub record IsAskedBlock (key spki : List ℕ) : Type 0 where
+  pub key_fits : length key < 2 ^ 8
+  pub spki_fits : length spki < 2 ^ 16
+
 abbrev pub IsCommand : Command → Type 0
-IsCommand (commands.Order key targets days common request) = IsOrder key days targets request
-IsCommand (commands.Finalize order) = order < 2 ^ 64
-IsCommand (commands.Block key spki) = (length key < 2 ^ 8) × (length spki < 2 ^ 16)
+IsCommand (commands.Order key targets days common request) = IsAskedOrder key targets request
+IsCommand (commands.Finalize order) = Unit {0}
+IsCommand (commands.Block key spki) = IsAskedBlock key spki
 
 -- each name of the command keeps the rule of names
 abbrev pub HasNames : Command → Type 0

@@ -1,5 +1,5 @@
 ghost use Rattle.std.specs.Prelude.{◌≡◌, IfOk, IfSome};
-ghost use Rattle.gate_entries.specs.Spelling.{IsEntry};
+ghost use Rattle.gate_entries.specs.Spelling.{IsWhat, IsEntry};
 ghost use Rattle.gate_entries.specs.Command.{what_of, entry_for, may_ask, IsCommand, IsCaller};
 
 use crate::caller::Caller;
@@ -71,7 +71,9 @@ impl Command {
         moment: Moment,
         caller: &Caller,
     ) -> Result<Option<Entry>, NoMemory>
-        ensures { IfOk result (λ entry. entry ≡ entry_for number moment caller.now self.now) }
+        requires { IsCommand self.now }
+        ensures entry { IfOk result (λ entry. entry ≡ entry_for number moment caller.now self.now) }
+        ensures what { IfOk result (λ entry. IfSome entry (λ e. IsWhat e.what)) }
     {
         let caller = caller.id.copied(alloc)?;
         let what = match self.what(alloc)? {
@@ -87,8 +89,11 @@ impl Command {
     }
 
     /// What the command's entry says, where the command says all of it.
+    #[tactic(auto, using(crate::proofs::Sizes::ordered))]
     fn what(&self, alloc: Global) -> Result<Option<What>, NoMemory>
-        ensures { IfOk result (λ what. what ≡ what_of self.now) }
+        requires { IsCommand self.now }
+        ensures what { IfOk result (λ what. what ≡ what_of self.now) }
+        ensures spelled { IfOk result (λ what. IfSome what IsWhat) }
     {
         match self {
             Command::Order {

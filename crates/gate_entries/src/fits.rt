@@ -16,7 +16,7 @@ const MOST_COUNTED16: usize = 65_535;
 impl Command {
     /// Whether each field is within its limit: keys, names and lists have at most 255 bytes or members, requests and
     /// blocked keys at most 65,535 bytes, and the entry at most 1,114,112 bytes.
-    #[tactic(auto, using(crate::proofs::Sizes::fits_whole))]
+    #[tactic(auto, using(crate::proofs::Sizes::fits_whole, crate::proofs::Sizes::fits_command))]
     pub fn fits(&self) -> bool
         ensures fits { IsTrue result ↔ Fits self.now }
         // What fits has a spelling, where its names are names.
@@ -27,8 +27,7 @@ impl Command {
 
     /// With such fields the entry is far below its limit.
     fn fields_fit(&self) -> bool
-        ensures fits { IsTrue result ↔ FieldsFit self.now }
-        ensures command { IsTrue result → HasNames self.now → IsCommand self.now }
+        ensures { IsTrue result ↔ FieldsFit self.now }
     {
         match self {
             Command::Order {

@@ -1,5 +1,5 @@
 use super::*;
-use gate_base::{Labels, Target, Targets};
+use gate_base::{Bytes, Labels, Target, Targets};
 use std::alloc::Global;
 use std::test::Fail;
 
@@ -9,6 +9,17 @@ const SETTINGS: &[u8] = b"\x01\0\0\0\0\0\0\0\x01\0\0\0\0\x6a\xb1\x3b\x80\0\0\0\0
 /// The second entry: caller `a` orders `example.com` for 90 days under the key `k1`, with a request of one byte.
 const ORDER: &[u8] =
     b"\x02\0\0\0\0\0\0\0\x02\0\0\0\0\x6a\xb1\x3b\x80\0\x01a\x02k1\0\0\x5a\x01\x01\0\x0bexample.com\0\x01\x30";
+
+/// A body of two bytes that is sent for order 2, as entry 3, and its signature of one byte, as entry 4.
+const SEND: &[u8] =
+    b"\x06\0\0\0\0\0\0\0\x03\0\0\0\0\x6a\xb1\x3b\x80\0\x01a\0\0\0\0\0\0\0\x02\0\x02\x30\0";
+
+const SIGNED: &[u8] =
+    b"\x07\0\0\0\0\0\0\0\x04\0\0\0\0\x6a\xb1\x3b\x80\0\x01a\0\0\0\0\0\0\0\x02\0\x01\x55";
+
+/// Caller `op` blocks a key of three bytes under the key `k1`, as entry 2.
+const BLOCKED: &[u8] =
+    b"\x08\0\0\0\0\0\0\0\x02\0\0\0\0\x6a\xb1\x3b\x80\0\x02op\x02k1\0\x03\xaa\xbb\xcc";
 
 /// Where the first bad field begins.
 fn place(alloc: Global, bytes: &[u8]) -> Option<u64> {
@@ -42,12 +53,12 @@ fn longer(alloc: Global) -> Result<Option<u64>, Fail> {
     Ok(place(alloc, &bytes))
 }
 
-/// Whether the bytes are read as an entry that is written as these bytes.
+/// Whether the bytes are read as an entry that is written as these bytes, and is as long as is told.
 fn is_written_as_read(alloc: Global, bytes: &[u8]) -> Result<bool, Fail> {
     let entry = read_entry(alloc, bytes).ok().ok_or("an entry")?;
     let mut out = Vec::new(alloc);
     write_entry(&entry, &mut out)?;
-    Ok(out.as_slice() == bytes)
+    Ok(out.as_slice() == bytes && entry_len(&entry) == bytes.len() as u64)
 }
 
 fn are_settings(alloc: Global) -> Result<bool, Fail> {
@@ -58,7 +69,7 @@ fn are_settings(alloc: Global) -> Result<bool, Fail> {
 fn are_empty(what: &What) -> bool {
     match what {
         What::Settings { bytes } => bytes.is_empty(),
-        What::Order { .. } => false,
+        _ => false,
     }
 }
 
@@ -82,7 +93,7 @@ fn is_ordered(what: &What) -> bool {
                 && request.as_slice() == b"0".as_slice()
                 && are_example(targets)
         }
-        What::Settings { .. } => false,
+        _ => false,
     }
 }
 
@@ -101,11 +112,57 @@ fn are_its_labels(labels: &Labels) -> bool {
     }
 }
 
+/// Whether a block with a retry key and a key of so many bytes fits.
+fn block_fits(alloc: Global, key: usize, spki: usize) -> Result<bool, Fail> {
+    let block = Command::Block {
+        key: zeros(alloc, key)?,
+        spki: zeros(alloc, spki)?,
+    };
+    Ok(block.fits())
+}
+
+fn zeros(alloc: Global, size: usize) -> Result<Bytes, Fail> {
+    let mut bytes = Vec::new(alloc);
+    bytes.resize(size, 0)?;
+    Ok(Bytes::from_vec(bytes))
+}
+
+/// Whether an account, a perspective and an operator have the command.
+fn roles(command: &Command) -> (bool, bool, bool) {
+    (
+        command.allowed(Role::Account),
+        command.allowed(Role::Perspective),
+        command.allowed(Role::Operator),
+    )
+}
+
+#[test]
+fn commands_fit_and_have_their_roles(rt: HostRuntime) -> Result<(), Fail> {
+    let alloc = rt.alloc();
+    assert!(rt; block_fits(alloc, 255, 65_535)?);
+    assert!(rt; !block_fits(alloc, 256, 0)?);
+    assert!(rt; !block_fits(alloc, 0, 65_536)?);
+    let block = Command::Block {
+        key: zeros(alloc, 1)?,
+        spki: zeros(alloc, 1)?,
+    };
+    assert_eq!(rt; roles(&block), (false, false, true));
+    assert_eq!(rt;
+        roles(&Command::Finalize { order: 2 }),
+        (true, false, false)
+    );
+    Ok(())
+}
+
 #[test]
 fn entries_are_read_written_and_refused(rt: HostRuntime) -> Result<(), Fail> {
     let alloc = rt.alloc();
     assert!(rt; is_written_as_read(alloc, SETTINGS)?);
     assert!(rt; is_written_as_read(alloc, ORDER)?);
+    assert_eq!(rt; BLOCKED.len(), 29);
+    for bytes in [SEND, SIGNED, BLOCKED] {
+        assert!(rt; is_written_as_read(alloc, bytes)?);
+    }
     assert!(rt; are_settings(alloc)?);
     assert!(rt; is_order(alloc)?);
     assert_eq!(rt; longer(alloc)?, Some(44));
