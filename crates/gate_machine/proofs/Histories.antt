@@ -1,5 +1,5 @@
 -- Histories that grow at their end.
-use Rattle.std.proofs.Common.{◌≡◌, ℕ, ◌+◌, ◌-◌, ◌<◌, ◌≤◌, List, [], ◌∷◌, ◌++◌, length, refl, sym, ap, subst, arith, append_assoc, append-nil, length-append, zero-add}
+use Rattle.std.proofs.Common.{◌≡◌, ℕ, ◌+◌, ◌-◌, ◌<◌, ◌≤◌, List, [], ◌∷◌, ◌++◌, length, Some, None, refl, sym, ap, subst, arith, append_assoc, append-nil, length-append, zero-add}
 use Rattle.std.proofs.Math.Seq.{get_or-append_seam}
 use Rattle.std.proofs.lemmas.List.Sums.{sum_by-append}
 use Rattle.std.proofs.lemmas.Option.{slice_get-get_or}
@@ -9,8 +9,12 @@ use Rattle.gate_entries.specs.declared.command.Command.{Command}
 use Rattle.gate_entries.specs.declared.command.Command.TheVariants as commands
 use Rattle.gate_entries.specs.declared.entry.Entry.{Entry}
 use Rattle.gate_entries.specs.Spelling.{IsEntry}
-use Rattle.gate_machine.specs.History.{last_moment, moment_of, record_size, journal_size, Follows, EachFollows, Legal}
-use Rattle.gate_machine.specs.Answer.{Writes}
+use Rattle.gate_entries.specs.declared.entry.What.{What}
+use Rattle.gate_entries.specs.declared.entry.What.TheVariants as whats
+use Rattle.gate_entries.specs.Command.{entry_with}
+use Rattle.gate_machine.specs.Rules.{BreaksNone}
+use Rattle.gate_machine.specs.History.{last_moment, moment_of, record_size, journal_size, MeetsRow, Follows, EachFollows, Legal}
+use Rattle.gate_machine.specs.Answer.{IsInRange, IsNew, command_moment, entry_of_command}
 
 -- the last entry of a history that has one more
 pub moment_of-push : (history : List Entry) (entry : Entry) → moment_of (history ++ entry ∷ []) ≡ entry.moment.0
@@ -44,19 +48,47 @@ each_ended before (entry ∷ entries) each ended =
     let first : moment_of (before ++ entry ∷ []) ≤ last_moment = subst (λ (m : ℕ). m ≤ last_moment) (sym (moment_of-push before entry)) each.0.ended in
     subst (λ (b : List Entry). moment_of b ≤ last_moment) (append_assoc before (entry ∷ []) entries) (each_ended (before ++ entry ∷ []) entries each.1 first)
 
--- what a command writes may come behind a legal history
-pub written_follows : (history : List Entry) (caller : Caller) (command : Command) (reading : ℕ) (entry : Entry) → Legal history
-    → Writes history caller command reading entry → IsEntry entry → Follows history entry
-written_follows history caller (commands.Order key targets days common request) reading entry legal writes spelled =
-    let ended : moment_of history ≤ last_moment = each_ended [] history legal.each (omega arith) in
-    subst (λ (e : Entry). Follows history e) (sym writes.entry_is) (record {
-      spelled = subst IsEntry writes.entry_is spelled;
-      numbered = refl;
-      later = omega arith;
-      begun = omega (arith, writes.in_range.begun);
-      ended = omega (arith, writes.in_range.ended, ended);
-      row = (legal.some, writes.new);
-    })
+none_some : {A : Type 0} {x : A} → None ≡ Some x → ⊥
+none_some is = cc is
+
+-- what a command writes may come behind a legal history, where its key is new and its fields break no rule
+module _ (history : List Entry) (caller : Caller) (reading : ℕ) (legal : Legal history) (in_range : IsInRange reading) where
+  under_key : (what : What) → MeetsRow history caller.id what → IsEntry (entry_with (length history + 1) (command_moment history reading) caller.id what)
+      → Follows history (entry_with (length history + 1) (command_moment history reading) caller.id what)
+  under_key what row spelled =
+      let ended : moment_of history ≤ last_moment = each_ended [] history legal.each (omega arith) in
+      record {
+        spelled = spelled;
+        numbered = refl;
+        later = omega arith;
+        begun = omega (arith, in_range.begun);
+        ended = omega (arith, in_range.ended, ended);
+        row = row;
+      }
+
+  comes : (command : Command) (entry : Entry) → entry_of_command history caller command reading ≡ Some entry → IsEntry entry
+      → IsNew history entry → BreaksNone entry.what → Follows history entry
+  comes (commands.Order key targets days common request) entry writes spelled new fields =
+      let what : What = whats.Order key common days targets request in
+      let is : entry_with (length history + 1) (command_moment history reading) caller.id what ≡ entry = cc writes in
+      subst (λ (e : Entry). Follows history e) is (under_key what (record {
+        some = legal.some;
+        new = subst (λ (e : Entry). IsNew history e) (sym is) new;
+        fields = subst (λ (e : Entry). BreaksNone e.what) (sym is) fields;
+      }) (subst IsEntry (sym is) spelled))
+  comes (commands.Finalize order) entry writes spelled new fields = absurd (none_some writes)
+  comes (commands.Block key spki) entry writes spelled new fields =
+      let what : What = whats.Blocked key spki in
+      let is : entry_with (length history + 1) (command_moment history reading) caller.id what ≡ entry = cc writes in
+      subst (λ (e : Entry). Follows history e) is (under_key what (record {
+        some = legal.some;
+        new = subst (λ (e : Entry). IsNew history e) (sym is) new;
+        fields = subst (λ (e : Entry). BreaksNone e.what) (sym is) fields;
+      }) (subst IsEntry (sym is) spelled))
+
+pub may_come : (history : List Entry) (caller : Caller) (command : Command) (reading : ℕ) (entry : Entry) → Legal history → IsInRange reading
+    → entry_of_command history caller command reading ≡ Some entry → IsEntry entry → IsNew history entry → BreaksNone entry.what → Follows history entry
+may_come history caller command reading entry legal in_range writes spelled new fields = comes history caller reading legal in_range command entry writes spelled new fields
 
 sum-push : {A : Type 0} (f : A → ℕ) (items : List A) (item : A) → 16 + sum_by f (items ++ item ∷ []) ≡ 16 + sum_by f items + f item
 sum-push f items item =

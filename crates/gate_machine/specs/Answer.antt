@@ -1,14 +1,17 @@
 -- What a command is answered over a history and a reading of the clock: a reply to say, or an entry to write.
-use Rattle.std.specs.Prelude.{◌≡◌, ◌≢◌, ℕ, ◌+◌, ◌<◌, ◌≤◌, ◌⊎◌, max, List, length, Some, None}
+use Rattle.std.specs.Prelude.{◌≡◌, ◌≢◌, ℕ, ◌+◌, ◌<◌, ◌≤◌, ◌⊎◌, max, Bool, true, false, List, length, Option, Some, None}
 use Rattle.gate_base.specs.declared.moment.Moment.{Moment}
 use Rattle.gate_entries.specs.declared.caller.Caller.{Caller}
 use Rattle.gate_entries.specs.declared.command.Command.{Command}
 use Rattle.gate_entries.specs.declared.entry.Entry.{Entry}
+use Rattle.gate_entries.specs.declared.entry.What.{What}
+use Rattle.gate_entries.specs.declared.entry.What.TheVariants as whats
 use Rattle.gate_entries.specs.declared.reply.Reply.{Reply}
-use Rattle.gate_entries.specs.declared.reply.Reply.TheVariants.{Placed, KeyReused, ClockRange, Full, ClockFault, DiskFault, JournalBad, NoMemory}
-use Rattle.gate_entries.specs.Command.{key_of, what_of, entry_for}
+use Rattle.gate_entries.specs.declared.reply.Reply.TheVariants as replies
+use Rattle.gate_entries.specs.Command.{entry_for}
 use Rattle.gate_machine.specs.declared.answer.Answer.{Answer}
 use Rattle.gate_machine.specs.declared.answer.Answer.TheVariants.{Say, Write}
+use Rattle.gate_machine.specs.Rules.{IsLeastBroken, BreaksNone}
 use Rattle.gate_machine.specs.History.{first_moment, last_moment, moment_of, kept_for, record_size, journal_size, most_bytes, Follows}
 
 pub record IsInRange (reading : ℕ) : Type 0 where
@@ -22,74 +25,77 @@ IsOutOfRange reading = (reading < first_moment) ⊎ (last_moment < reading)
 abbrev pub command_moment : List Entry → ℕ → Moment
 command_moment history reading = record { 0 = max reading (moment_of history) }
 
--- the entry that a command writes
-abbrev pub entry_of_command : List Entry → Caller → Command → ℕ → Entry
+-- the entry that a command writes, where it says all of it
+abbrev pub entry_of_command : List Entry → Caller → Command → ℕ → Option Entry
 entry_of_command history caller command reading = entry_for (length history + 1) (command_moment history reading) caller command
 
--- the command's key is new to its caller
-abbrev pub IsNew : List Entry → Caller → Command → Type 0
-IsNew history caller command = kept_for caller.id (key_of command) history ≡ None
+-- the reply to what was written under a key: a blocked key, or else an order
+abbrev pub reply_to : What → ℕ → Reply
+reply_to (whats.Blocked key spki) number = replies.Blocked number
+reply_to what number = replies.Placed number
 
--- this entry of the same caller stands under the command's key
-abbrev pub IsKept : List Entry → Caller → Command → Entry → Type 0
-IsKept history caller command kept = kept_for caller.id (key_of command) history ≡ Some kept
+abbrev pub reply_of : Entry → Reply
+reply_of entry = reply_to entry.what entry.number
+
+-- the entry's key is new to its caller
+abbrev pub IsNew : List Entry → Entry → Type 0
+IsNew history entry = kept_for entry.caller entry.what history ≡ None
 
 -- the journal has room for one more record
 abbrev pub HasRoom : List Entry → Entry → Type 0
 HasRoom history entry = journal_size history + record_size entry ≤ most_bytes
 
--- the same command again: the order that was placed
-pub record Repeats (history : List Entry) (caller : Caller) (command : Command) (reading order : ℕ) : Type 0 where
-  pub in_range : IsInRange reading
+-- under a key that stands: the reply of the entry that stands there, or its number where it says something else
+abbrev pub SaysKept : Entry → Entry → Reply → Type 0
+SaysKept kept entry reply = ((kept.what ≡ entry.what) × (reply ≡ reply_of kept)) ⊎ ((kept.what ≢ entry.what) × (reply ≡ replies.KeyReused kept.number))
+
+pub record AnswersKept (history : List Entry) (entry : Entry) (answer : Answer) : Type 0 where
   pub kept : Entry
-  pub stands : IsKept history caller command kept
-  pub same : kept.what ≡ what_of command
-  pub number : order ≡ kept.number
+  pub stands : kept_for entry.caller entry.what history ≡ Some kept
+  pub reply : Reply
+  pub says : SaysKept kept entry reply
+  pub answer_is : answer ≡ Say reply
 
--- another command under a key that stands: the entry that it stands in
-pub record Reuses (history : List Entry) (caller : Caller) (command : Command) (reading place : ℕ) : Type 0 where
+-- the least rule that its fields break
+pub record AnswersFields (what : What) (answer : Answer) : Type 0 where
+  pub rule : ℕ
+  pub least : IsLeastBroken what rule
+  pub answer_is : answer ≡ Say (replies.BadFields rule)
+
+-- the entry, or that it doesn't fit
+abbrev pub AnswersRoom : List Entry → Entry → Answer → Type 0
+AnswersRoom history entry answer =
+    ((most_bytes < journal_size history + record_size entry) × (answer ≡ Say replies.Full)) ⊎ (HasRoom history entry × (answer ≡ Write entry))
+
+abbrev pub AnswersNew : List Entry → Entry → Answer → Type 0
+AnswersNew history entry answer = AnswersFields entry.what answer ⊎ (BreaksNone entry.what × AnswersRoom history entry answer)
+
+abbrev pub AnswersEntry : List Entry → Entry → Answer → Type 0
+AnswersEntry history entry answer = AnswersKept history entry answer ⊎ (IsNew history entry × AnswersNew history entry answer)
+
+-- the answer to a command that says all of its entry
+pub record AnswersWriting (history : List Entry) (caller : Caller) (command : Command) (reading : ℕ) (answer : Answer) : Type 0 where
   pub in_range : IsInRange reading
-  pub kept : Entry
-  pub stands : IsKept history caller command kept
-  pub other : kept.what ≢ what_of command
-  pub number : place ≡ kept.number
+  pub entry : Entry
+  pub writes : entry_of_command history caller command reading ≡ Some entry
+  pub answers : AnswersEntry history entry answer
 
--- the reply under a key that stands
-abbrev pub IsKeptReply : Entry → Command → Reply → Type 0
-IsKeptReply kept command (Placed order) = (kept.what ≡ what_of command) × (order ≡ kept.number)
-IsKeptReply kept command (KeyReused place) = (kept.what ≢ what_of command) × (place ≡ kept.number)
-IsKeptReply kept command (ClockRange reading) = ⊥
-IsKeptReply kept command Full = ⊥
-IsKeptReply kept command ClockFault = ⊥
-IsKeptReply kept command DiskFault = ⊥
-IsKeptReply kept command (JournalBad at) = ⊥
-IsKeptReply kept command NoMemory = ⊥
-
--- the entry doesn't fit
-pub record Fills (history : List Entry) (caller : Caller) (command : Command) (reading : ℕ) : Type 0 where
-  pub in_range : IsInRange reading
-  pub new : IsNew history caller command
-  pub full : most_bytes < journal_size history + record_size (entry_of_command history caller command reading)
-
-pub record Writes (history : List Entry) (caller : Caller) (command : Command) (reading : ℕ) (entry : Entry) : Type 0 where
-  pub in_range : IsInRange reading
-  pub new : IsNew history caller command
-  pub entry_is : entry ≡ entry_of_command history caller command reading
-  pub room : HasRoom history entry
-
--- the first refusal that holds: a reading out of range, a key with other content, no room; a fault is no answer
+-- the first refusal that holds: a reading out of range, a key with other content, a field that breaks a rule, no room
 abbrev pub Answers : List Entry → Caller → Command → ℕ → Answer → Type 0
-Answers history caller command reading (Say (ClockRange given)) = (given ≡ reading) × IsOutOfRange reading
-Answers history caller command reading (Say (Placed order)) = Repeats history caller command reading order
-Answers history caller command reading (Say (KeyReused place)) = Reuses history caller command reading place
-Answers history caller command reading (Say Full) = Fills history caller command reading
-Answers history caller command reading (Say ClockFault) = ⊥
-Answers history caller command reading (Say DiskFault) = ⊥
-Answers history caller command reading (Say (JournalBad at)) = ⊥
-Answers history caller command reading (Say NoMemory) = ⊥
-Answers history caller command reading (Write entry) = Writes history caller command reading entry
+Answers history caller command reading answer =
+    (IsOutOfRange reading × (answer ≡ Say (replies.ClockRange reading))) ⊎ AnswersWriting history caller command reading answer
 
 -- what is to be written may come behind the history
 abbrev pub IsReady : List Entry → Answer → Type 0
 IsReady history (Say reply) = Unit {0}
 IsReady history (Write entry) = Follows history entry
+
+-- replies that tell a fault of the outside or want of memory; they are no answers
+abbrev pub is_fault : Reply → Bool
+is_fault replies.ClockFault = true
+is_fault replies.EntropyFault = true
+is_fault replies.DiskFault = true
+is_fault replies.SignerFault = true
+is_fault (replies.JournalBad at) = true
+is_fault replies.NoMemory = true
+is_fault reply = false

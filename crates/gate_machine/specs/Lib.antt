@@ -1,3 +1,4 @@
+pub mod Rules
 pub mod History
 pub mod Answer
 pub mod Step

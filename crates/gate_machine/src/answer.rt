@@ -1,16 +1,21 @@
-ghost use Rattle.std.specs.Prelude.{◌≡◌, ◌+◌, ◌≤◌, ◌↔◌, ◌^◌, ◌<◌, length, IsTrue, IfOk};
+ghost use Rattle.std.specs.Prelude.{◌≡◌, ◌≢◌, ◌↔◌, ◌≤◌, None, IsTrue, IfOk};
 ghost use Rattle.gate_entries.specs.Spelling.{IsEntry};
-ghost use Rattle.gate_entries.specs.Command.{IsCommand, IsCaller};
-ghost use Rattle.gate_machine.specs.History.{journal_size, record_size, Legal};
-ghost use Rattle.gate_machine.specs.Answer.{Answers, IsReady, IsKeptReply, IsInRange, IsKept, IsNew, Writes, entry_of_command};
+ghost use Rattle.gate_entries.specs.Command.{what_of, IsCommand, IsCaller};
+ghost use Rattle.gate_machine.specs.Rules.{BreaksNone};
+ghost use Rattle.gate_machine.specs.History.{journal_size, Legal, Follows};
+ghost use Rattle.gate_machine.specs.Answer.{Answers, AnswersEntry, AnswersNew, IsReady, IsNew, SaysKept, IsInRange, reply_of};
 
 use crate::following::{FIRST_MOMENT, LAST_MOMENT, find_kept, last_moment};
-use gate_base::{Moment, NoMemory};
-use gate_entries::{Caller, Command, Entry, Reply, write_entry};
+use crate::rules::broken_rule;
+use gate_base::{Moment, NoMemory, Plain};
+use gate_entries::{Caller, Command, Entry, Reply, What, entry_len};
 use std::alloc::Global;
 
 /// The greatest length of a journal.
 const MOST_BYTES: u64 = 67_108_864;
+
+/// How many bytes stand before a record's payload.
+const RECORD_HEAD: u64 = 4;
 
 /// What a command is answered: a reply to say, or an entry to write.
 #[derive(Debug, Drop)]
@@ -19,7 +24,8 @@ pub enum Answer {
     Write(Entry),
 }
 
-/// The answer over a history whose journal has so many bytes.
+/// The answer over a history whose journal has so many bytes. The role isn't judged here.
+#[tactic(auto, using(crate::proofs::Histories::may_come))]
 pub fn answer_command(
     alloc: Global,
     history: &[Entry],
@@ -32,15 +38,18 @@ pub fn answer_command(
     requires size { size ≡ journal_size history.now }
     requires caller { IsCaller caller.now }
     requires command { IsCommand command.now }
+    requires writes { what_of command.now ≢ None }
     ensures answers { IfOk result (Answers history.now caller.now command.now reading) }
     ensures ready { IfOk result (IsReady history.now) }
 {
     if !is_in_range(reading) {
         return Ok(Answer::Say(Reply::ClockRange { reading }));
     }
-    match find_kept(history, &caller.id, command.key()) {
-        Some(kept) => Ok(Answer::Say(kept_reply(kept, command))),
-        None => new_answer(alloc, history, size, caller, command, reading),
+    let number = history.len() as u64 + 1;
+    let moment = Moment(reading.max(last_moment(history)));
+    match command.entry(alloc, number, moment, caller)? {
+        Some(entry) => Ok(answer_entry(history, size, entry)),
+        None => unreachable!(),
     }
 }
 
@@ -50,52 +59,56 @@ fn is_in_range(reading: u64) -> bool
     FIRST_MOMENT <= reading && reading <= LAST_MOMENT
 }
 
-/// The reply under a key that stands.
-fn kept_reply(kept: &Entry, command: &Command) -> Reply
-    ensures { IsKeptReply kept.now command.now result }
+/// The answer to what is to be written under a key.
+fn answer_entry(history: &[Entry], size: u64, entry: Entry) -> Answer
+    requires size { size ≡ journal_size history.now }
+    requires spelled { IsEntry entry }
+    requires comes { IsNew history.now entry → BreaksNone entry.what → Follows history.now entry }
+    ensures answers { AnswersEntry history.now entry result }
+    ensures ready { IsReady history.now result }
 {
-    if command.is_kept_as(&kept.what) {
-        Reply::Placed { order: kept.number }
+    match find_kept(history, &entry.caller, &entry.what) {
+        Some(kept) => Answer::Say(kept_reply(kept, &entry)),
+        None => answer_new(history, size, entry),
+    }
+}
+
+/// The reply under a key that stands.
+fn kept_reply(kept: &Entry, entry: &Entry) -> Reply
+    ensures { SaysKept kept.now entry.now result }
+{
+    if kept.what.is_same(&entry.what) {
+        written_reply(kept)
     } else {
         Reply::KeyReused { kept: kept.number }
     }
 }
 
-/// The answer under a new key.
-#[tactic(auto, using(crate::proofs::Histories::written_follows))]
-fn new_answer(
-    alloc: Global,
-    history: &[Entry],
-    size: u64,
-    caller: &Caller,
-    command: &Command,
-    reading: u64,
-) -> Result<Answer, NoMemory>
-    requires legal { Legal history.now }
-    requires size { size ≡ journal_size history.now }
-    requires caller { IsCaller caller.now }
-    requires command { IsCommand command.now }
-    requires in_range { IsInRange reading }
-    requires new { IsNew history.now caller.now command.now }
-    ensures answers { IfOk result (Answers history.now caller.now command.now reading) }
-    ensures ready { IfOk result (IsReady history.now) }
+/// The reply to what was written under a key.
+pub fn written_reply(entry: &Entry) -> Reply
+    ensures { result ≡ reply_of entry.now }
 {
-    let number = history.len() as u64 + 1;
-    let moment = Moment(reading.max(last_moment(history)));
-    let entry = command.entry(alloc, number, moment, caller)?;
-    let record = record_size(alloc, &entry)?;
-    if MOST_BYTES < size || MOST_BYTES - size < record {
-        return Ok(Answer::Say(Reply::Full));
+    let number = entry.number;
+    match &entry.what {
+        What::Blocked { .. } => Reply::Blocked { number },
+        _ => Reply::Placed { order: number },
     }
-    Ok(Answer::Write(entry))
 }
 
-/// How many bytes an entry's record takes.
-fn record_size(alloc: Global, entry: &Entry) -> Result<u64, NoMemory>
-    requires { IsEntry entry.now }
-    ensures { IfOk result (λ size. size ≡ record_size entry.now) }
+/// The answer under a new key.
+fn answer_new(history: &[Entry], size: u64, entry: Entry) -> Answer
+    requires size { size ≡ journal_size history.now }
+    requires spelled { IsEntry entry }
+    requires comes { BreaksNone entry.what → Follows history.now entry }
+    ensures answers { AnswersNew history.now entry result }
+    ensures ready { IsReady history.now result }
 {
-    let mut spelled = Vec::new(alloc);
-    write_entry(entry, &mut spelled)?;
-    Ok(spelled.len() as u64 + 4)
+    if let Some(rule) = broken_rule(&entry.what) {
+        return Answer::Say(Reply::BadFields { rule });
+    }
+    let record = RECORD_HEAD + entry_len(&entry);
+    if MOST_BYTES < size || MOST_BYTES - size < record {
+        return Answer::Say(Reply::Full);
+    }
+    Answer::Write(entry)
 }

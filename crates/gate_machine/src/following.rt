@@ -1,8 +1,9 @@
 ghost use Rattle.std.specs.Prelude.{◌≡◌, ◌≢◌, ◌+◌, ◌↔◌, [], length, None, IsTrue, IsNone};
 ghost use Rattle.std.specs.Option.{option_copied};
 ghost use Rattle.gate_entries.specs.Spelling.{IsEntry};
-ghost use Rattle.gate_machine.specs.History.{moment_of, has_key, is_under, kept_for, MeetsRow, Follows};
+ghost use Rattle.gate_machine.specs.History.{moment_of, is_same_key, is_under, kept_for, ComesUnderKey, MeetsRow, Follows};
 
+use crate::rules::broken_rule;
 use gate_base::Bytes;
 use gate_entries::{Entry, What};
 
@@ -22,25 +23,25 @@ pub fn last_moment(history: &[Entry]) -> u64
     }
 }
 
-/// The entry under a caller's key.
-pub fn find_kept<'a>(history: &'a [Entry], caller: &Bytes, key: &Bytes) -> Option<&'a Entry>
-    ensures { option_copied result ≡ kept_for caller.now key.now history.now }
+/// The entry that stands under the caller's key of this content.
+pub fn find_kept<'a>(history: &'a [Entry], caller: &Bytes, what: &What) -> Option<&'a Entry>
+    ensures { option_copied result ≡ kept_for caller.now what.now history.now }
 {
-    history.iter().find(|entry| is_under(entry, caller, key))
+    history.iter().find(|entry| is_under(entry, caller, what))
 }
 
-fn is_under(entry: &Entry, caller: &Bytes, key: &Bytes) -> bool
-    ensures { result ≡ is_under caller.now key.now entry.now }
+fn is_under(entry: &Entry, caller: &Bytes, what: &What) -> bool
+    ensures { result ≡ is_under caller.now what.now entry.now }
 {
-    entry.caller == *caller && has_key(&entry.what, key)
+    entry.caller == *caller && is_same_key(entry.what.key(), what.key())
 }
 
-fn has_key(what: &What, key: &Bytes) -> bool
-    ensures { result ≡ has_key key.now what.now }
+fn is_same_key(left: Option<&Bytes>, right: Option<&Bytes>) -> bool
+    ensures { result ≡ is_same_key (option_copied left.entry) (option_copied right.entry) }
 {
-    match what {
-        What::Settings { .. } => false,
-        What::Order { key: kept, .. } => kept == key,
+    match (left, right) {
+        (Some(left), Some(right)) => left == right,
+        (_, _) => false,
     }
 }
 
@@ -68,6 +69,13 @@ fn meets_row(before: &[Entry], caller: &Bytes, what: &What) -> bool
 {
     match what {
         What::Settings { bytes } => before.is_empty() && caller.is_empty() && bytes.is_empty(),
-        What::Order { key, .. } => !before.is_empty() && find_kept(before, caller, key).is_none(),
+        What::Order { .. } | What::Blocked { .. } => comes_under_key(before, caller, what),
+        What::Send { .. } | What::Signed { .. } => false,
     }
+}
+
+fn comes_under_key(before: &[Entry], caller: &Bytes, what: &What) -> bool
+    ensures { IsTrue result ↔ ComesUnderKey before.now caller.now what.now }
+{
+    !before.is_empty() && find_kept(before, caller, what).is_none() && broken_rule(what).is_none()
 }

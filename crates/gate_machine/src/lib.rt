@@ -5,7 +5,9 @@
 mod answer;
 mod following;
 mod law;
+mod rules;
 
-pub use answer::{Answer, answer_command};
+pub use answer::{Answer, answer_command, written_reply};
 pub use following::{find_kept, follows, last_moment};
-pub use law::one_entry_more;
+pub use law::{no_answer_is_a_fault, one_entry_more};
+pub use rules::broken_rule;
