@@ -3,10 +3,10 @@ ghost use Rattle.std.specs.Prelude.{◌≡◌, ◌≢◌, ℕ, ◌≤◌, ◌↔
 ghost use Rattle.std.specs.Option.{ForSome};
 ghost use Rattle.plant.specs.Causes.{Rose};
 ghost use Rattle.plant.specs.Plant.{LeavesSigner};
-ghost use Rattle.gate_entries.specs.Command.{IsCommand, IsCaller};
+ghost use Rattle.gate_entries.specs.Command.{what_of, may_ask, IsCommand, IsCaller};
 ghost use Rattle.gate_machine.specs.History.{Follows};
 ghost use Rattle.gate_machine.specs.Answer.{Answers, IsReady};
-ghost use Rattle.gate_machine.specs.Step.{Holds, Settles, EndsRemount, Acts, Goes, Step};
+ghost use Rattle.gate_machine.specs.Step.{Holds, Settles, EndsRemount, Acts, Asks, Goes, Step};
 ghost use Rattle.gate_engine.specs.Engine.{StandsForPlant, IsForeign, IsOther, state_of};
 
 use crate::engine::Engine;
@@ -15,7 +15,7 @@ use crate::starting::open;
 use crate::writing::append_entry;
 use gate_base::{NoMemory, Plain, are_same};
 use gate_entries::{Caller, Command, Entry, Reply};
-use gate_machine::{Answer, answer_command};
+use gate_machine::{Answer, answer_command, what_follows_a_reading};
 use plant::{Clock, Entropy, Plant};
 
 /// Where the first record lies.
@@ -35,6 +35,7 @@ impl Engine {
         requires stands { StandsForPlant self.old (P.told plant.old) }
         requires caller { IsCaller caller.now }
         requires command { IsCommand command.now }
+        requires writes { what_of command.now ≢ None }
         ensures step { Step (state_of self.old (P.told plant.old) (C.told clock.old)) caller.now command.now result
             (state_of self.new (P.told plant.new) (C.told clock.new)) }
         // What the disk holds is told as foreign only where it is, and then nothing is taken up.
@@ -111,7 +112,8 @@ impl Engine {
         comes_from(&self.history, &self.loose, &found.history)
     }
 
-    #[tactic(auto, using(crate::proofs::Steps::goes_read, crate::proofs::Steps::goes_unread))]
+    /// Answers a command with nothing loose.
+    #[tactic(auto, using(crate::proofs::Steps::goes_denied, crate::proofs::Steps::goes_allowed))]
     fn ask_settled<P: Plant, C: Clock>(
         &mut self,
         plant: &mut P,
@@ -123,6 +125,7 @@ impl Engine {
         requires stands { StandsForPlant self.old (P.told plant.old) }
         requires caller { IsCaller caller.now }
         requires command { IsCommand command.now }
+        requires writes { what_of command.now ≢ None }
         ensures goes { Goes self.old.history (C.told clock.old) (C.told clock.new) caller.now command.now result self.new }
         ensures foreign { (at : ℕ) → result ≢ Reply.JournalBad at }
         ensures disk { result ≡ Reply.DiskFault → Rose (P.told plant.old).disk_faults (P.told plant.new).disk_faults }
@@ -130,6 +133,34 @@ impl Engine {
         ensures signer { LeavesSigner (P.told plant.old) (P.told plant.new) }
         ensures later { (P.told plant.old).disk_faults ≤ (P.told plant.new).disk_faults }
     {
+        if !command.allowed(caller.role) {
+            return Reply::RoleDenied;
+        }
+        self.ask_allowed(plant, clock, caller, command)
+    }
+
+    /// Answers a command that the caller's role has.
+    #[tactic(auto, using(crate::proofs::Steps::asks_read, crate::proofs::Steps::asks_unread, crate::proofs::Steps::not_foreign))]
+    fn ask_allowed<P: Plant, C: Clock>(
+        &mut self,
+        plant: &mut P,
+        clock: &mut C,
+        caller: &Caller,
+        command: &Command,
+    ) -> Reply
+        requires settled { self.old.loose ≡ None }
+        requires stands { StandsForPlant self.old (P.told plant.old) }
+        requires caller { IsCaller caller.now }
+        requires command { IsCommand command.now }
+        requires writes { what_of command.now ≢ None }
+        ensures asks { Asks self.old.history (C.told clock.old) (C.told clock.new) caller.now command.now result self.new }
+        ensures foreign { (at : ℕ) → result ≢ Reply.JournalBad at }
+        ensures disk { result ≡ Reply.DiskFault → Rose (P.told plant.old).disk_faults (P.told plant.new).disk_faults }
+        ensures stands { StandsForPlant self.new (P.told plant.new) }
+        ensures signer { LeavesSigner (P.told plant.old) (P.told plant.new) }
+        ensures later { (P.told plant.old).disk_faults ≤ (P.told plant.new).disk_faults }
+    {
+        what_follows_a_reading();
         match clock.now() {
             Ok(reading) => self.act(plant, caller, command, reading),
             Err(_) => Reply::ClockFault,
@@ -149,6 +180,7 @@ impl Engine {
         requires stands { StandsForPlant self.old (P.told plant.old) }
         requires caller { IsCaller caller.now }
         requires command { IsCommand command.now }
+        requires writes { what_of command.now ≢ None }
         ensures acts { Acts self.old.history caller.now command.now reading result self.new }
         ensures disk { result ≡ Reply.DiskFault → Rose (P.told plant.old).disk_faults (P.told plant.new).disk_faults }
         ensures stands { StandsForPlant self.new (P.told plant.new) }
@@ -165,6 +197,7 @@ impl Engine {
     fn answer(&self, caller: &Caller, command: &Command, reading: u64) -> Result<Answer, NoMemory>
         requires caller { IsCaller caller.now }
         requires command { IsCommand command.now }
+        requires writes { what_of command.now ≢ None }
         ensures answers { IfOk result (Answers self.now.history caller.now command.now reading) }
         ensures ready { IfOk result (IsReady self.now.history) }
     {

@@ -1,7 +1,7 @@
 //! A table of commands, answered by an engine and by a list.
-ghost use Rattle.std.specs.Prelude.{◌≡◌, ◌<◌, ◌≤◌, ◌^◌, length};
+ghost use Rattle.std.specs.Prelude.{◌≡◌, ◌≢◌, ◌<◌, ◌≤◌, ◌^◌, None, length};
 ghost use Rattle.gate_entries.specs.Spelling.{IsTarget, AreTargets};
-ghost use Rattle.gate_entries.specs.Command.{IsCommand, IsCaller};
+ghost use Rattle.gate_entries.specs.Command.{what_of, IsCommand, IsCaller};
 
 use super::*;
 use gate_base::{Bytes, Moment, Role, Sequence, Target, Targets};
@@ -45,6 +45,12 @@ const DISK_FAULT: u8 = 5;
 
 const FULL: u8 = 6;
 
+const BLOCKED: u8 = 9;
+
+const ROLE_DENIED: u8 = 10;
+
+const BAD_FIELDS: u8 = 11;
+
 fn said(reply: Reply) -> Said {
     match reply {
         Reply::Placed { order } => (PLACED, order),
@@ -55,6 +61,10 @@ fn said(reply: Reply) -> Said {
         Reply::Full => (FULL, 0),
         Reply::JournalBad { at } => (7, at),
         Reply::NoMemory => (8, 0),
+        Reply::Blocked { number } => (BLOCKED, number),
+        Reply::RoleDenied => (ROLE_DENIED, 0),
+        Reply::BadFields { rule } => (BAD_FIELDS, u64::from(rule)),
+        _ => (0, 0),
     }
 }
 
@@ -137,6 +147,7 @@ impl Gate {
     fn ask(&mut self, caller: &Caller, command: &Command) -> Reply
         requires caller { IsCaller caller.now }
         requires command { IsCommand command.now }
+        requires writes { what_of command.now ≢ None }
     {
         self.engine.ask(
             &mut self.plant,
@@ -170,7 +181,8 @@ fn one_target(rt: &impl Abort, alloc: Global, text: &[u8]) -> Targets
 }
 
 fn command(rt: &impl Abort, alloc: Global, key: u8, content: Content) -> Command
-    ensures { IsCommand result }
+    ensures command { IsCommand result }
+    ensures writes { what_of result ≢ None }
 {
     Command::Order {
         key: bytes(rt, alloc, key_of(key)),
@@ -224,6 +236,34 @@ fn gate_over(
         plant,
         clock,
         entropy: ListEntropy::new(Sequence::new(alloc)),
+    }
+}
+
+/// What is blocked under the retry key of that number.
+fn block(rt: &impl Abort, alloc: Global, key: usize, spki: &[u8]) -> Command
+    requires { length spki.now < 2 ^ 16 }
+    ensures command { IsCommand result }
+    ensures writes { what_of result ≢ None }
+{
+    let key: &[u8] = match key {
+        0 => b"k1",
+        1 => b"~!",
+        2 => b"k 1",
+        3 => b"",
+        _ => b"0123456789abcdef0123456789abcdef0123456789abcdef0123456789abcdef0",
+    };
+    Command::Block {
+        key: bytes(rt, alloc, key),
+        spki: bytes(rt, alloc, spki),
+    }
+}
+
+fn operator(rt: &impl Abort, alloc: Global) -> Caller
+    ensures { IsCaller result }
+{
+    Caller {
+        id: bytes(rt, alloc, b"op"),
+        role: Role::Operator,
     }
 }
 
@@ -795,4 +835,51 @@ fn a_disk_that_is_too_long_is_told(rt: HostRuntime) {
         let fault = fault_of_bytes(&rt, rt.alloc(), &disk);
         assert_eq!(rt; fault, bad_at(at), "{size} bytes");
     }
+}
+
+/// The record of the key that operator `op` blocks under `k1`, as entry 2.
+const BLOCKED_RECORD: &[u8] =
+    b"\0\0\0\x1d\x08\0\0\0\0\0\0\0\x02\0\0\0\0\x6a\xb1\x3b\x80\0\x02op\x02k1\0\x03\xaa\xbb\xcc";
+
+/// The retry key and the blocked key of each command of the operator, and its reply.
+const BLOCKS: &[(usize, u8, Said)] = &[
+    (0, 3, (BLOCKED, 2)),
+    (0, 3, (BLOCKED, 2)),
+    (0, 2, (KEY_REUSED, 2)),
+    (0, 0, (KEY_REUSED, 2)),
+    (1, 0, (BAD_FIELDS, 17)),
+    (2, 3, (BAD_FIELDS, 1)),
+    (3, 0, (BAD_FIELDS, 1)),
+    (4, 3, (BAD_FIELDS, 1)),
+    // the same key again, under another retry key
+    (1, 3, (BLOCKED, 3)),
+    (1, 3, (BLOCKED, 3)),
+];
+
+#[test]
+fn keys_are_blocked_by_operators(rt: HostRuntime) {
+    let alloc = rt.alloc();
+    let mut plant = empty_plant(&rt, alloc, &[]);
+    begin(alloc, &mut plant, Moment(BEGUN)).expect(&rt, "a journal");
+    let mut gate = gate_over(&rt, alloc, plant, &[Some(BEGUN)]);
+    // Neither may do what the other does.
+    let asked = block(&rt, alloc, 0, &[1]);
+    let denied = said(gate.ask(&caller(&rt, alloc, 0), &asked));
+    assert_eq!(rt; denied, (ROLE_DENIED, 0));
+    let asked = command(&rt, alloc, 0, content_of(0));
+    let denied = said(gate.ask(&operator(&rt, alloc), &asked));
+    assert_eq!(rt; denied, (ROLE_DENIED, 0));
+    for (key, size, want) in BLOCKS {
+        let spki: &[u8] = match size {
+            0 => &[],
+            2 => &[0xaa, 0xbb],
+            _ => &[0xaa, 0xbb, 0xcc],
+        };
+        let asked = block(&rt, alloc, *key, spki);
+        let got = said(gate.ask(&operator(&rt, alloc), &asked));
+        assert_eq!(rt; got, *want, "under key {key}");
+    }
+    assert_eq!(rt; gate.engine.count(), 3);
+    let record = gate.plant.disk().get(43..76);
+    assert!(rt; record == Some(BLOCKED_RECORD));
 }

@@ -1,19 +1,19 @@
 //! How an entry is committed.
-ghost use Rattle.std.specs.Prelude.{◌≡◌, ◌+◌, ◌≤◌, ℕ, List, None, [], ◌∷◌, ◌++◌, true, false, length, IfOk, OnOk, OnErr, IsErrOf};
+ghost use Rattle.std.specs.Prelude.{◌≡◌, ◌+◌, ◌≤◌, ◌⊎◌, ℕ, List, None, [], ◌∷◌, ◌++◌, true, false, length, IfOk, OnOk, OnErr, IsErrOf};
 ghost use Rattle.std.specs.Option.{ForSome};
 ghost use Rattle.plant.specs.Causes.{Rose, HasCause};
 ghost use Rattle.plant.specs.Plant.{LeavesSigner};
 ghost use Rattle.journal_core.specs.Journal.{StandsFor};
 ghost use Rattle.gate_entries.specs.Spelling.{entry_bytes, IsEntry};
 ghost use Rattle.gate_machine.specs.History.{Follows, journal_size, record_size};
-ghost use Rattle.gate_machine.specs.Step.{Wrote};
+ghost use Rattle.gate_machine.specs.Step.{WantsMemory, Wrote};
 ghost use Rattle.gate_engine.specs.Engine.{StandsForPlant};
 
 use crate::engine::Engine;
 use crate::fault::WriteFault;
 use gate_base::NoMemory;
 use gate_entries::{Entry, Reply, write_entry};
-use gate_machine::one_entry_more;
+use gate_machine::{one_entry_more, written_reply};
 use journal_core::{AppendDisk, Journal, one_record_more};
 use plant::Plant;
 use std::alloc::Global;
@@ -69,7 +69,7 @@ impl Engine {
         requires stands { StandsForPlant self.old (P.told plant.old) }
         requires follows { Follows self.old.history entry }
         requires room { journal_size self.old.history + record_size entry ≤ 67_108_864 }
-        ensures wrote { Wrote self.old.history entry result self.new }
+        ensures wrote { WantsMemory self.old.history result self.new ⊎ Wrote self.old.history entry result self.new }
         ensures disk { result ≡ Reply.DiskFault → Rose (P.told plant.old).disk_faults (P.told plant.new).disk_faults }
         ensures stands { StandsForPlant self.new (P.told plant.new) }
         ensures signer { LeavesSigner (P.told plant.old) (P.told plant.new) }
@@ -77,13 +77,13 @@ impl Engine {
     {
         one_record_more();
         one_entry_more();
-        let order = entry.number;
+        let reply = written_reply(&entry);
         if self.history.reserve(1).is_err() {
             return Reply::NoMemory;
         }
         match append_entry(self.alloc, &mut self.journal, plant, &entry) {
             Ok(()) => match self.history.push(entry) {
-                Ok(()) => Reply::Placed { order },
+                Ok(()) => reply,
                 Err(_) => unreachable!(),
             },
             Err(WriteFault::Disk) => {

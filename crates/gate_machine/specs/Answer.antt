@@ -1,5 +1,5 @@
 -- What a command is answered over a history and a reading of the clock: a reply to say, or an entry to write.
-use Rattle.std.specs.Prelude.{◌≡◌, ◌≢◌, ℕ, ◌+◌, ◌<◌, ◌≤◌, ◌⊎◌, max, Bool, true, false, List, length, Option, Some, None}
+use Rattle.std.specs.Prelude.{◌≡◌, ◌≢◌, ℕ, ◌+◌, ◌<◌, ◌≤◌, ◌⊎◌, max, List, length, Option, Some, None}
 use Rattle.gate_base.specs.declared.moment.Moment.{Moment}
 use Rattle.gate_entries.specs.declared.caller.Caller.{Caller}
 use Rattle.gate_entries.specs.declared.command.Command.{Command}
@@ -89,13 +89,3 @@ Answers history caller command reading answer =
 abbrev pub IsReady : List Entry → Answer → Type 0
 IsReady history (Say reply) = Unit {0}
 IsReady history (Write entry) = Follows history entry
-
--- replies that tell a fault of the outside or want of memory; they are no answers
-abbrev pub is_fault : Reply → Bool
-is_fault replies.ClockFault = true
-is_fault replies.EntropyFault = true
-is_fault replies.DiskFault = true
-is_fault replies.SignerFault = true
-is_fault (replies.JournalBad at) = true
-is_fault replies.NoMemory = true
-is_fault reply = false

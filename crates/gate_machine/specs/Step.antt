@@ -1,5 +1,5 @@
 -- One step of a gate: a command, its reply, and what the gate and the outside are before and after.
-use Rattle.std.specs.Prelude.{◌≡◌, ℕ, ◌≤◌, ◌⊎◌, List, [], ◌∷◌, ◌++◌, true, false, Option, Some, None, option_to_list}
+use Rattle.std.specs.Prelude.{◌≡◌, ℕ, ◌≤◌, ◌⊎◌, List, [], ◌∷◌, ◌++◌, Bool, true, false, Option, Some, None, option_to_list}
 use Rattle.plant.specs.Causes.{Rose}
 use Rattle.plant.specs.Clock.{ClockTold, Reads}
 use Rattle.gate_entries.specs.declared.caller.Caller.{Caller}
@@ -57,6 +57,12 @@ WantsMemory history reply new = (reply ≡ NoMemory) × Holds new history
 -- the reply over a settled history and a reading
 abbrev pub Acts : List Entry → Caller → Command → ℕ → Reply → Held → Type 0
 Acts history caller command reading reply new = WantsMemory history reply new ⊎ Acted history caller command reading reply new
+
+-- replies that come before a reading alone: the clock failed, or the disk holds another journal
+abbrev pub is_before_reading : Reply → Bool
+is_before_reading ClockFault = true
+is_before_reading (JournalBad at) = true
+is_before_reading reply = false
 
 -- the one call of the clock gave a reading, and the reply is over it
 pub record Read (history : List Entry) (clock clock' : ClockTold) (caller : Caller) (command : Command) (reply : Reply) (new : Held) : Type 0 where

@@ -4,8 +4,7 @@ ghost use Rattle.gate_entries.specs.declared.entry.Entry.{Entry as EntryValue};
 ghost use Rattle.gate_entries.specs.declared.caller.Caller.{Caller as CallerValue};
 ghost use Rattle.gate_entries.specs.declared.command.Command.{Command as CommandValue};
 ghost use Rattle.gate_entries.specs.declared.reply.Reply.{Reply as ReplyValue};
-ghost use Rattle.gate_machine.specs.declared.answer.Answer.TheVariants.{Say};
-ghost use Rattle.gate_machine.specs.Answer.{Answers, is_fault};
+ghost use Rattle.gate_machine.specs.Step.{Held as HeldValue, Acts, is_before_reading};
 ghost use Rattle.gate_machine.specs.History.{record_size, journal_size, Follows, EachFollows, Legal};
 
 /// A history with one entry more.
@@ -16,8 +15,8 @@ pub fn one_entry_more()
     ensures none { journal_size [] ≡ 16 }
 {}
 
-/// A reply that tells a fault of the outside, or want of memory, is no answer.
-pub fn no_answer_is_a_fault()
-    ensures { (history : List EntryValue) (caller : CallerValue) (command : CommandValue) (reading : ℕ) (reply : ReplyValue) →
-        Answers history caller command reading (Say reply) → is_fault reply ≡ false }
+/// What follows a reading tells neither a clock that failed nor another journal.
+pub fn what_follows_a_reading()
+    ensures { (history : List EntryValue) (caller : CallerValue) (command : CommandValue) (reading : ℕ) (reply : ReplyValue) (new : HeldValue) →
+        Acts history caller command reading reply new → is_before_reading reply ≡ false }
 {}

@@ -9,5 +9,5 @@ mod rules;
 
 pub use answer::{Answer, answer_command, written_reply};
 pub use following::{find_kept, follows, last_moment};
-pub use law::{no_answer_is_a_fault, one_entry_more};
+pub use law::{one_entry_more, what_follows_a_reading};
 pub use rules::broken_rule;

@@ -1,15 +1,15 @@
 -- Steps one after another.
-use Rattle.std.proofs.Common.{◌≡◌, ◌≢◌, ℕ, ◌≤◌, inl, inr, List, [], ◌∷◌, ◌++◌, Some, None, refl, sym, ap, subst, ◌∙◌, arith}
+use Rattle.std.proofs.Common.{◌≡◌, ◌≢◌, ℕ, ◌≤◌, inl, inr, List, [], ◌∷◌, ◌++◌, Some, None, false, refl, sym, ap, subst, ◌∙◌, arith}
 use Rattle.plant.specs.Causes.{Rose, RoseBy}
 use Rattle.plant.specs.Clock.{ClockTold}
 use Rattle.gate_entries.specs.declared.caller.Caller.{Caller}
 use Rattle.gate_entries.specs.declared.command.Command.{Command}
 use Rattle.gate_entries.specs.declared.entry.Entry.{Entry}
 use Rattle.gate_entries.specs.declared.reply.Reply.{Reply}
-use Rattle.gate_entries.specs.declared.reply.Reply.TheVariants.{Placed, KeyReused, ClockRange, Full, ClockFault, DiskFault, JournalBad, NoMemory}
+use Rattle.gate_entries.specs.declared.reply.Reply.TheVariants.{ClockFault, DiskFault}
 use Rattle.gate_machine.specs.declared.answer.Answer.{Answer}
 use Rattle.gate_machine.specs.declared.answer.Answer.TheVariants.{Say, Write}
-use Rattle.gate_machine.specs.Step.{Held, State, Acted, Acts, Does, Goes, Step, Steps}
+use Rattle.gate_machine.specs.Step.{Held, State, Does, Acts, Asks, Goes, EndsRemount, Step, Steps, is_before_reading}
 use Rattle.gate_server.specs.Session.{tells_disk, tells_clock}
 
 pub steps_more : (old mid new : State) (caller : Caller) (commands : List Command) (replies : List Reply) (command : Command) (reply : Reply)
@@ -28,31 +28,34 @@ steps_later old new caller (first ∷ commands) [] steps = absurd steps
 steps_later old new caller (first ∷ commands) (answer ∷ replies) steps =
     omega (arith, steps.1.later, steps_later steps.0 new caller commands replies steps.2)
 
-does_settled : (answer : Answer) (history : List Entry) (reply : Reply) (new : Held) → Does answer history reply new → new.loose ≡ None
-does_settled (Say said) history reply new does = does.held.1
-does_settled (Write entry) history reply new does = does.held.1
+module _ (reply : Reply) (other : reply ≢ DiskFault) where
+  does_settled : (answer : Answer) (history : List Entry) (new : Held) → Does answer history reply new → new.loose ≡ None
+  does_settled (Say said) history new does = does.1.1
+  does_settled (Write entry) history new does = elim does [
+    | inl committed ↦ committed.1.1
+    | inr lost ↦ absurd (other lost.0)
+  ]
 
-acted_settled : (history : List Entry) (caller : Caller) (command : Command) (reading : ℕ) (reply : Reply) (new : Held)
-    → Acted history caller command reading reply new → new.loose ≡ None
-acted_settled history caller command reading reply new acted = does_settled acted.answer history reply new acted.does
+  acts_settled : (history : List Entry) (caller : Caller) (command : Command) (reading : ℕ) (new : Held)
+      → Acts history caller command reading reply new → new.loose ≡ None
+  acts_settled history caller command reading new acts = elim acts [
+    | inl memory ↦ memory.1.1
+    | inr acted ↦ does_settled acted.answer history new acted.does
+  ]
 
-acts_settled : (history : List Entry) (caller : Caller) (command : Command) (reading : ℕ) (reply : Reply) (new : Held) → reply ≢ DiskFault
-    → Acts history caller command reading reply new → new.loose ≡ None
-acts_settled history caller command reading DiskFault new other acts = absurd (other refl)
-acts_settled history caller command reading NoMemory new other acts = acts.1
-acts_settled history caller command reading ClockFault new other acts = absurd acts
-acts_settled history caller command reading (JournalBad at) new other acts = absurd acts
-acts_settled history caller command reading (Placed order) new other acts = acted_settled history caller command reading (Placed order) new acts
-acts_settled history caller command reading (KeyReused kept) new other acts = acted_settled history caller command reading (KeyReused kept) new acts
-acts_settled history caller command reading (ClockRange given) new other acts = acted_settled history caller command reading (ClockRange given) new acts
-acts_settled history caller command reading Full new other acts = acted_settled history caller command reading Full new acts
+  asks_settled : (history : List Entry) (clock clock' : ClockTold) (caller : Caller) (command : Command) (new : Held)
+      → Asks history clock clock' caller command reply new → new.loose ≡ None
+  asks_settled history clock clock' caller command new asks = elim asks [
+    | inl fails ↦ fails.held.1
+    | inr read ↦ acts_settled history caller command read.reading new read.acts
+  ]
 
-goes_settled : (history : List Entry) (clock clock' : ClockTold) (caller : Caller) (command : Command) (reply : Reply) (new : Held) → reply ≢ DiskFault
-    → Goes history clock clock' caller command reply new → new.loose ≡ None
-goes_settled history clock clock' caller command reply new other goes = elim goes [
-  | inl fails ↦ fails.held.1
-  | inr read ↦ acts_settled history caller command read.reading reply new other read.acts
-]
+  goes_settled : (history : List Entry) (clock clock' : ClockTold) (caller : Caller) (command : Command) (new : Held)
+      → Goes history clock clock' caller command reply new → new.loose ≡ None
+  goes_settled history clock clock' caller command new goes = elim goes [
+    | inl denies ↦ denies.held.1
+    | inr allowed ↦ asks_settled history clock clock' caller command new allowed.1
+  ]
 
 some_none : {A : Type 0} {x : A} → Some x ≡ None → ⊥
 some_none is = cc is
@@ -62,7 +65,7 @@ pub step_settled : (old new : State) (caller : Caller) (command : Command) (repl
     → (Rose old.disk_faults new.disk_faults → ⊥) → new.held.loose ≡ None
 step_settled old new caller command reply step none same = elim step.goes [
   | inl fails ↦ absurd (some_none (sym fails.was_loose ∙ none))
-  | inr settled ↦ goes_settled settled.history old.clock new.clock caller command reply new.held (λ is. same (step.cause is)) settled.goes
+  | inr settled ↦ goes_settled reply (λ is. same (step.cause is)) settled.history old.clock new.clock caller command new.held settled.goes
 ]
 
 pub rose_before : (a b c : ℕ) → b ≤ c → Rose a b → Rose a c
@@ -90,48 +93,65 @@ no_more before now later = omega (arith, later)
 pub step_disk : (old new : State) (caller : Caller) (command : Command) (reply : Reply) → Step old caller command reply new
     → RoseBy (tells_disk reply) old.disk_faults new.disk_faults
 step_disk old new caller command DiskFault step = step.cause refl
-step_disk old new caller command (Placed order) step = no_more _ _ step.later
-step_disk old new caller command (KeyReused kept) step = no_more _ _ step.later
-step_disk old new caller command (ClockRange reading) step = no_more _ _ step.later
-step_disk old new caller command Full step = no_more _ _ step.later
-step_disk old new caller command ClockFault step = no_more _ _ step.later
-step_disk old new caller command (JournalBad at) step = no_more _ _ step.later
-step_disk old new caller command NoMemory step = no_more _ _ step.later
+step_disk old new caller command reply step = no_more _ _ step.later
+
+same_later : (old new : ClockTold) → new ≡ old → old.faults ≤ new.faults
+same_later old new is = let same = ap (λ (c : ClockTold). c.faults) is in omega (arith, same)
+
+asks_later : (history : List Entry) (clock clock' : ClockTold) (caller : Caller) (command : Command) (reply : Reply) (new : Held)
+    → Asks history clock clock' caller command reply new → clock.faults ≤ clock'.faults
+asks_later history clock clock' caller command reply new asks = elim asks [
+  | inl fails ↦ fails.reads.later
+  | inr read ↦ read.reads.later
+]
 
 goes_later : (history : List Entry) (clock clock' : ClockTold) (caller : Caller) (command : Command) (reply : Reply) (new : Held)
     → Goes history clock clock' caller command reply new → clock.faults ≤ clock'.faults
 goes_later history clock clock' caller command reply new goes = elim goes [
-  | inl fails ↦ fails.reads.later
-  | inr read ↦ read.reads.later
+  | inl denies ↦ same_later clock clock' denies.clock_same
+  | inr allowed ↦ asks_later history clock clock' caller command reply new allowed.1
 ]
 
 step_clock_later : (old new : State) (caller : Caller) (command : Command) (reply : Reply) → Step old caller command reply new
     → old.clock.faults ≤ new.clock.faults
 step_clock_later old new caller command reply step = elim step.goes [
-  | inl fails ↦ (let same = ap (λ (c : ClockTold). c.faults) fails.clock_same in omega (arith, same))
+  | inl fails ↦ same_later old.clock new.clock fails.clock_same
   | inr settled ↦ goes_later settled.history old.clock new.clock caller command reply new.held settled.goes
 ]
 
-unread : (history : List Entry) (clock clock' : ClockTold) (caller : Caller) (command : Command) (new : Held)
-    → Goes history clock clock' caller command ClockFault new → Rose clock.faults clock'.faults
-unread history clock clock' caller command new goes = elim goes [
-  | inl fails ↦ fails.reads.failed
-  | inr read ↦ absurd read.acts
+ends_otherwise : EndsRemount ClockFault → ⊥
+ends_otherwise ends = elim ends [
+  | inl disk ↦ cc disk
+  | inr other ↦ elim other [
+    | inl memory ↦ cc memory
+    | inr journal ↦ cc journal.1
+  ]
 ]
 
-step_unread : (old new : State) (caller : Caller) (command : Command) → Step old caller command ClockFault new → Rose old.clock.faults new.clock.faults
-step_unread old new caller command step = elim step.goes [
-  | inl fails ↦ absurd fails.ends
-  | inr settled ↦ unread settled.history old.clock new.clock caller command new.held settled.goes
-]
+-- a failed clock is told only where its count rose, since what follows a reading doesn't tell it
+module _ (follows : (history : List Entry) (caller : Caller) (command : Command) (reading : ℕ) (reply : Reply) (new : Held)
+    → Acts history caller command reading reply new → is_before_reading reply ≡ false) where
+  unread : (history : List Entry) (clock clock' : ClockTold) (caller : Caller) (command : Command) (new : Held)
+      → Asks history clock clock' caller command ClockFault new → Rose clock.faults clock'.faults
+  unread history clock clock' caller command new asks = elim asks [
+    | inl fails ↦ fails.reads.failed
+    | inr read ↦ let wrong = follows history caller command read.reading ClockFault new read.acts in absurd (cc wrong)
+  ]
 
-pub step_clock : (old new : State) (caller : Caller) (command : Command) (reply : Reply) → Step old caller command reply new
-    → RoseBy (tells_clock reply) old.clock.faults new.clock.faults
-step_clock old new caller command ClockFault step = step_unread old new caller command step
-step_clock old new caller command DiskFault step = no_more _ _ (step_clock_later old new caller command DiskFault step)
-step_clock old new caller command (Placed order) step = no_more _ _ (step_clock_later old new caller command (Placed order) step)
-step_clock old new caller command (KeyReused kept) step = no_more _ _ (step_clock_later old new caller command (KeyReused kept) step)
-step_clock old new caller command (ClockRange reading) step = no_more _ _ (step_clock_later old new caller command (ClockRange reading) step)
-step_clock old new caller command Full step = no_more _ _ (step_clock_later old new caller command Full step)
-step_clock old new caller command (JournalBad at) step = no_more _ _ (step_clock_later old new caller command (JournalBad at) step)
-step_clock old new caller command NoMemory step = no_more _ _ (step_clock_later old new caller command NoMemory step)
+  undenied : (history : List Entry) (clock clock' : ClockTold) (caller : Caller) (command : Command) (new : Held)
+      → Goes history clock clock' caller command ClockFault new → Rose clock.faults clock'.faults
+  undenied history clock clock' caller command new goes = elim goes [
+    | inl denies ↦ absurd (cc denies.told)
+    | inr allowed ↦ unread history clock clock' caller command new allowed.1
+  ]
+
+  step_unread : (old new : State) (caller : Caller) (command : Command) → Step old caller command ClockFault new → Rose old.clock.faults new.clock.faults
+  step_unread old new caller command step = elim step.goes [
+    | inl fails ↦ absurd (ends_otherwise fails.ends)
+    | inr settled ↦ undenied settled.history old.clock new.clock caller command new.held settled.goes
+  ]
+
+  pub step_clock : (old new : State) (caller : Caller) (command : Command) (reply : Reply) → Step old caller command reply new
+      → RoseBy (tells_clock reply) old.clock.faults new.clock.faults
+  step_clock old new caller command ClockFault step = step_unread old new caller command step
+  step_clock old new caller command reply step = no_more _ _ (step_clock_later old new caller command reply step)

@@ -1,12 +1,16 @@
 -- Exchanges one after another.
-use Rattle.std.proofs.Common.{◌≡◌, ℕ, ◌+◌, ◌≤◌, List, [], ◌∷◌, ◌++◌, Option, Some, None, refl, sym, ap, subst, ◌∙◌, append_assoc, append-nil, zero-add, arith}
+use Rattle.std.proofs.Common.{◌≡◌, ℕ, ◌+◌, ◌≤◌, List, [], ◌∷◌, ◌++◌, Option, Some, None, false, refl, sym, ap, subst, ◌∙◌, append_assoc, append-nil, zero-add, arith}
 use Rattle.std.specs.Prelude.{sum_by}
 use Rattle.std.proofs.lemmas.List.Sums.{sum_by-append}
 use Rattle.plant.specs.Causes.{RoseBy}
 use Rattle.std.specs.List.{flat_map, AllByRecursion}
 use Rattle.std.specs.Io.KnownBytes.{Appends}
 use Rattle.std.proofs.lemmas.Grind.{flat_map-append}
+use Rattle.gate_entries.specs.declared.caller.Caller.{Caller}
+use Rattle.gate_entries.specs.declared.command.Command.{Command}
+use Rattle.gate_entries.specs.declared.entry.Entry.{Entry}
 use Rattle.gate_entries.specs.declared.reply.Reply.{Reply}
+use Rattle.gate_machine.specs.Step.{Held, Acts, is_before_reading}
 use Rattle.plant.specs.Stream.{SourceTold}
 use Rattle.wire_front.specs.Message.{message_of, IsMessage}
 use Rattle.wire_front.specs.Reply.{text_of}
@@ -39,7 +43,9 @@ rose_more n m sum a b c is first second = omega (arith, is, first, second)
 
 module _ (none : (stream : StreamState) (source : SourceTold) → Passes stream source stream source [])
     (more : (old mid new : StreamState) (source source' source'' : SourceTold) (left right : List ℕ) → Passes old source mid source' left
-    → Passes mid source' new source'' right → Passes old source new source'' (left ++ right)) where
+    → Passes mid source' new source'' right → Passes old source new source'' (left ++ right))
+    (follows : (history : List Entry) (caller : Caller) (command : Command) (reading : ℕ) (reply : Reply) (new : Held)
+    → Acts history caller command reading reply new → is_before_reading reply ≡ false) where
   pub talked_none : (talk : Talk) → Talked talk talk
   talked_none talk = record {
     commands = [];
@@ -69,5 +75,5 @@ module _ (none : (stream : StreamState) (source : SourceTold) → Passes stream 
     disk_told = rose_more (sum_by tells_disk talked.replies) (tells_disk answers.reply) _ old.state.disk_faults mid.state.disk_faults new.state.disk_faults
         (told_more tells_disk talked.replies answers.reply) talked.disk_told (step_disk mid.state new.state acme answers.command answers.reply answers.exchanges.step);
     clock_told = rose_more (sum_by tells_clock talked.replies) (tells_clock answers.reply) _ old.state.clock.faults mid.state.clock.faults new.state.clock.faults
-        (told_more tells_clock talked.replies answers.reply) talked.clock_told (step_clock mid.state new.state acme answers.command answers.reply answers.exchanges.step);
+        (told_more tells_clock talked.replies answers.reply) talked.clock_told (step_clock follows mid.state new.state acme answers.command answers.reply answers.exchanges.step);
   }

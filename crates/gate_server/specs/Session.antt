@@ -10,7 +10,7 @@ use Rattle.plant.specs.Stream.{SourceTold, SinkTold, AppendsFront}
 use Rattle.gate_entries.specs.declared.caller.Caller.{Caller}
 use Rattle.gate_entries.specs.declared.command.Command.{Command}
 use Rattle.gate_entries.specs.declared.reply.Reply.{Reply}
-use Rattle.gate_entries.specs.declared.reply.Reply.TheVariants.{Placed, KeyReused, ClockRange, Full, ClockFault, DiskFault, JournalBad, NoMemory}
+use Rattle.gate_entries.specs.declared.reply.Reply.TheVariants.{ClockFault, DiskFault}
 use Rattle.gate_machine.specs.Step.{Held, State, Step, Steps}
 use Rattle.gate_engine.specs.Engine.{state_of}
 use Rattle.wire_front.specs.Message.{message_of, IsMessage, HasNoMessage}
@@ -99,23 +99,11 @@ Turns (Err status) old new = Ends status old new
 -- 1 for a reply that tells a fault of the disk, of the clock
 abbrev pub tells_disk : Reply → ℕ
 tells_disk DiskFault = 1
-tells_disk (Placed order) = 0
-tells_disk (KeyReused kept) = 0
-tells_disk (ClockRange reading) = 0
-tells_disk Full = 0
-tells_disk ClockFault = 0
-tells_disk (JournalBad at) = 0
-tells_disk NoMemory = 0
+tells_disk reply = 0
 
 abbrev pub tells_clock : Reply → ℕ
 tells_clock ClockFault = 1
-tells_clock DiskFault = 0
-tells_clock (Placed order) = 0
-tells_clock (KeyReused kept) = 0
-tells_clock (ClockRange reading) = 0
-tells_clock Full = 0
-tells_clock (JournalBad at) = 0
-tells_clock NoMemory = 0
+tells_clock reply = 0
 
 -- messages that were asked and answered, in order; each count rose by as many as its faults were told, at least
 pub record Talked (old new : Talk) : Type 0 where

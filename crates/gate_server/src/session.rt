@@ -10,6 +10,7 @@ use crate::status::Status;
 use gate_base::{Bytes, NoMemory, Role};
 use gate_engine::Engine;
 use gate_entries::{Caller, Reply};
+use gate_machine::what_follows_a_reading;
 use plant::{Clock, Entropy, Plant, PutFault, Sink, Source};
 use std::alloc::Global;
 use wire_front::{Stream, Taken, one_passing, reply_text};
@@ -46,6 +47,7 @@ pub fn answer_messages<P: Plant, C: Clock, E: Entropy, S: Source, K: Sink>(
     ensures entropy { E.told entropy.new ≡ E.told entropy.old }
 {
     one_passing();
+    what_follows_a_reading();
     let Ok(caller) = account(alloc) else {
         return Status::NoMemory;
     };

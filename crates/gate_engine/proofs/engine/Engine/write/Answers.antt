@@ -3,7 +3,7 @@ use Rattle.plant.specs.Plant.{PlantTold}
 use Rattle.gate_machine.specs.Step.{Held}
 use Rattle.gate_engine.proofs.Stands.{stands_same, stands_more}
 use Rattle.gate_engine.proofs.engine.Engine.write.Goals as goal
-use Rattle.gate_engine.proofs.engine.Engine.write.Goals.{in-Settings-2, in-Order-2}
+use Rattle.gate_engine.proofs.engine.Engine.write.Goals.{in-Settings-2, in-Order-2, in-Send-2, in-Signed-2, in-Blocked-2}
 
 pub returns-then-is_err-clause-stands : goal.returns-then-is_err-clause-stands
 returns-then-is_err-clause-stands g c = λ settled.
@@ -21,4 +21,7 @@ returns-in-Err-NoMemory-clause-stands g c =
     elim c.match-entry-2.branch [
       | in-Settings-2 w ↦ λ settled. stands_same _ _ _ _ (c.requires.stands c.requires.settled) (ap (λ (held : Held). held.history) w.self-is ∙ before) told
       | in-Order-2 w ↦ λ settled. stands_same _ _ _ _ (c.requires.stands c.requires.settled) (ap (λ (held : Held). held.history) w.self-is ∙ before) told
+      | in-Send-2 w ↦ λ settled. stands_same _ _ _ _ (c.requires.stands c.requires.settled) (ap (λ (held : Held). held.history) w.self-is ∙ before) told
+      | in-Signed-2 w ↦ λ settled. stands_same _ _ _ _ (c.requires.stands c.requires.settled) (ap (λ (held : Held). held.history) w.self-is ∙ before) told
+      | in-Blocked-2 w ↦ λ settled. stands_same _ _ _ _ (c.requires.stands c.requires.settled) (ap (λ (held : Held). held.history) w.self-is ∙ before) told
     ]
