@@ -10,7 +10,7 @@ use Rattle.base64.specs.GeneralPurpose.{encode_of, decode_of, IsBytes}
 use Rattle.base64.specs.Engines.{standard}
 use Rattle.base64.proofs.EngineFacts.{decode_of-encode_of}
 use Rattle.gate_entries.specs.declared.command.Command.{Command}
-use Rattle.gate_entries.specs.declared.command.Command.TheVariants.{Order}
+use Rattle.gate_entries.specs.declared.command.Command.TheVariants.{Order, Finalize, Block}
 use Rattle.gate_entries.proofs.Names.{left_holds, right_holds}
 use Rattle.wire_front.specs.Message.{is_plain_byte, names_text, is_key, body_of, IsSaid}
 use Rattle.wire_front.specs.Reading.{Reads, ◌>>=◌, field_at, behind, before, Texts, members_at, texts_of}
@@ -30,6 +30,8 @@ unfolding body_of
 body_text (Order key targets days common request) is =
     pieces (codes "{\"common\":false,\"days\":") (decimal days) (codes ",\"key\":\"") key (codes "\",\"names\":[") (names_text targets) (codes "],\"request\":\"")
     (encode_of standard request) (codes "\"}")
+body_text (Finalize order) is = absurd is
+body_text (Block key spki) is = absurd is
 
 -- texts without the byte that ends them
 pub record AreFree (texts : Texts) : Type 0 where
@@ -100,6 +102,8 @@ are_free (Order key targets days common request) is = record {
   key = label_free 34 quote key (key_plain key is.key_fits);
   names = names_free 93 bracket refl refl refl targets is.names_fit.each;
 }
+are_free (Finalize order) is = absurd is
+are_free (Block key spki) is = absurd is
 
 -- a body is read to its texts
 pub said_again : (body : List ℕ) (command : Command) → IsSaid command → body ≡ body_of command → members_at body ≡ Some (texts_of command)
@@ -140,6 +144,10 @@ one_order (Order key targets days common request) (Order key2 targets2 days2 com
     let e3 : common ≡ common2 = is_left.plain ∙ sym is_right.plain in
     let e4 : request ≡ request2 = one_request request request2 is_left.request_fits.bytes is_right.request_fits.bytes (ap (λ (x : Texts). x.3) e) in
     rw (e0, e1, e2, e3, e4) refl
+one_order (Order key targets days common request) (Finalize order) is_left is_right same = absurd is_right
+one_order (Order key targets days common request) (Block key2 spki) is_left is_right same = absurd is_right
+one_order (Finalize order) right is_left is_right same = absurd is_left
+one_order (Block key spki) right is_left is_right same = absurd is_left
 
 pub key_length : (key : List ℕ) → is_key key ≡ true → length key ≤ 64
 key_length key is = leb-true (length key) 64 (right_holds _ _ (left_holds _ _ is))

@@ -7,7 +7,7 @@ use Rattle.base64.specs.Engines.{standard}
 use Rattle.gate_base.specs.declared.name.Target.{Target}
 use Rattle.gate_base.specs.declared.name.Target.TheVariants.{Dns, Ip}
 use Rattle.gate_entries.specs.declared.command.Command.{Command}
-use Rattle.gate_entries.specs.declared.command.Command.TheVariants.{Order}
+use Rattle.gate_entries.specs.declared.command.Command.TheVariants.{Order, Finalize, Block}
 use Rattle.gate_entries.specs.Spelling.{IsTarget}
 use Rattle.gate_entries.specs.Command.{IsCommand}
 use Rattle.wire_front.specs.Message.{message_of, body_of, framed, names_text, IsDomain, IsSaid, IsMessage, HasNoMessage, NeverHasMessage, BeginsWith}
@@ -23,16 +23,18 @@ starts_so : (a b c d e f g h i : List ℕ) → a ++ b ++ c ++ d ++ e ++ f ++ g +
 starts_so a b c d e f g h i = simp append_assoc
 
 -- a body is never empty
-body_some : (command : Command) → 1 ≤ length (body_of command)
+body_some : (command : Command) → IsSaid command → 1 ≤ length (body_of command)
 unfolding body_of
-body_some (Order key targets days common request) = omega (
+body_some (Order key targets days common request) is = omega (
   arith,
   ap length (starts_so body_begins (decimal days) (codes ",\"key\":\"") key (codes "\",\"names\":[")
       (names_text targets) (codes "],\"request\":\"") (encode_of standard request) (codes "\"}")),
 )
+body_some (Finalize order) is = absurd is
+body_some (Block key spki) is = absurd is
 
 body_size : (command : Command) → IsMessage command → IsSize (length (body_of command))
-body_size command is = (body_some command, is.fits)
+body_size command is = (body_some command is.said, is.fits)
 
 pub one_message : (left right : Command) (r s : List ℕ) → IsMessage left → IsMessage right → message_of left ++ r ≡ message_of right ++ s → (left ≡ right) × (r ≡ s)
 unfolding message_of
@@ -48,10 +50,11 @@ targets_spelled (Ip address ∷ targets) are = absurd are.0
 said_spelled : (command : Command) → IsSaid command → IsCommand command
 said_spelled (Order key targets days common request) is = record {
   key_fits = omega (arith, key_length key is.key_fits);
-  days_fit = omega (arith, is.days_fit.1);
   are_targets = record { count = omega (arith, is.names_fit.fit); each = targets_spelled targets is.names_fit.each };
   request_fits = omega (arith, is.request_fits.fits);
 }
+said_spelled (Finalize order) is = absurd is
+said_spelled (Block key spki) is = absurd is
 
 pub message_found : (bytes body behind : List ℕ) (command : Command) → IsSize (length body) → bytes ≡ framed body ++ behind → IsSaid command → body ≡ body_of command
     → BeginsWith bytes command (length behind)

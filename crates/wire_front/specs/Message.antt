@@ -36,10 +36,12 @@ abbrev pub names_text : List Target → List ℕ
 names_text [] = []
 names_text (target ∷ targets) = quoted (domain_text target) ++ flat_map (λ next. 44 ∷ quoted (domain_text next)) targets
 
+-- the body that says a command; only an order is said so far
 unfoldable pub body_of : Command → List ℕ
 body_of (Order key targets days common request) =
     codes "{\"common\":false,\"days\":" ++ decimal days ++ codes ",\"key\":\"" ++ key ++ codes "\",\"names\":[" ++ names_text targets
     ++ codes "],\"request\":\"" ++ encode_of standard request ++ codes "\"}"
+body_of command = []
 
 -- a body behind its head
 abbrev pub framed : List ℕ → List ℕ
@@ -100,6 +102,7 @@ pub record IsOrderMessage (key : List ℕ) (targets : List Target) (days : ℕ) 
 -- a command that a message can say, in a body of at most 65,536 bytes
 abbrev pub IsSaid : Command → Type 0
 IsSaid (Order key targets days common request) = IsOrderMessage key targets days common request
+IsSaid command = ⊥
 
 pub record IsMessage (command : Command) : Type 0 where
   pub said : IsSaid command

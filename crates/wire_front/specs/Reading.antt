@@ -97,6 +97,7 @@ members_at body = do
 
 abbrev pub texts_of : Command → Texts
 texts_of (Order key targets days common request) = (decimal days, key, names_text targets, encode_of standard request)
+texts_of command = ([], [], [], [])
 
 -- ---- names
 

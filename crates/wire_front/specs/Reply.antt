@@ -1,34 +1,80 @@
 -- The bytes of a reply: an HTTP/1.1 response with a JSON body.
-use Rattle.std.specs.Prelude.{ℕ, List, [], ◌++◌, length, codes, decimal, unwrap_or}
+use Rattle.std.specs.Prelude.{ℕ, ◌/◌, ◌%◌, List, [], ◌∷◌, ◌++◌, length, codes, decimal, unwrap_or, false}
+use Rattle.std.specs.List.{flat_map}
+use Rattle.std.specs.Fmt.{digit_glyph}
+use Rattle.base64.specs.GeneralPurpose.{encode_of}
+use Rattle.base64.specs.Engines.{standard}
 use Rattle.http.specs.StatusCode.{reason_phrase}
 use Rattle.gate_entries.specs.declared.reply.Reply.{Reply}
-use Rattle.gate_entries.specs.declared.reply.Reply.TheVariants.{Placed, KeyReused, ClockRange, Full, ClockFault, DiskFault, JournalBad, NoMemory}
+use Rattle.gate_entries.specs.declared.reply.Reply.TheVariants as replies
+use Rattle.gate_entries.specs.declared.reply.Why.{Why}
+use Rattle.gate_entries.specs.declared.reply.Why.TheVariants as reasons
 
 -- the status (RFC 9110, section 15)
 abbrev pub status_of : Reply → ℕ
-status_of (Placed order) = 200
-status_of (KeyReused kept) = 409
-status_of (ClockRange reading) = 503
-status_of Full = 507
-status_of ClockFault = 503
-status_of DiskFault = 503
-status_of (JournalBad at) = 503
-status_of NoMemory = 500
+status_of (replies.Placed order) = 200
+status_of (replies.Issued order serial certificate) = 200
+status_of (replies.Blocked number) = 200
+status_of replies.RoleDenied = 403
+status_of replies.NoSuchOrder = 404
+status_of (replies.KeyReused kept) = 409
+status_of (replies.BadFields rule) = 422
+status_of (replies.Refused why) = 422
+status_of replies.NoMemory = 500
+status_of (replies.ClockRange reading) = 503
+status_of (replies.EntropyRepeat value) = 503
+status_of replies.ClockFault = 503
+status_of replies.EntropyFault = 503
+status_of replies.DiskFault = 503
+status_of replies.SignerFault = 503
+status_of (replies.JournalBad at) = 503
+status_of replies.Full = 507
 
 -- its phrase
 unfoldable pub reason_of : ℕ → List ℕ
 reason_of status = unwrap_or (reason_phrase status) []
 
+-- two lower-case hexadecimal digits a byte
+abbrev pub byte_hex : ℕ → List ℕ
+byte_hex byte = digit_glyph false (byte / 16) ∷ digit_glyph false (byte % 16) ∷ []
+
+abbrev pub hex_of : List ℕ → List ℕ
+hex_of bytes = flat_map byte_hex bytes
+
+-- standard base64 (RFC 4648, section 4)
+unfoldable pub base64_of : List ℕ → List ℕ
+base64_of bytes = encode_of standard bytes
+
+-- the members of a reason, in the order of their names
+abbrev pub reason_json : Why → List ℕ
+reason_json (reasons.KeyBlocked number) = codes "{\"number\":" ++ decimal number ++ codes ",\"rule\":\"key_blocked\"}"
+
+-- reasons with a comma between two
+abbrev pub reasons_json : List Why → List ℕ
+reasons_json [] = []
+reasons_json (why ∷ whys) = reason_json why ++ flat_map (λ next. 44 ∷ reason_json next) whys
+
 -- the members of the body, in the order of their names
 abbrev pub json_of : Reply → List ℕ
-json_of (Placed order) = codes "{\"order\":" ++ decimal order ++ codes ",\"reply\":\"placed\"}"
-json_of (KeyReused kept) = codes "{\"kept\":" ++ decimal kept ++ codes ",\"reply\":\"key_reused\"}"
-json_of (ClockRange reading) = codes "{\"reading\":" ++ decimal reading ++ codes ",\"reply\":\"clock_range\"}"
-json_of Full = codes "{\"reply\":\"full\"}"
-json_of ClockFault = codes "{\"reply\":\"clock_fault\"}"
-json_of DiskFault = codes "{\"reply\":\"disk_fault\"}"
-json_of (JournalBad at) = codes "{\"at\":" ++ decimal at ++ codes ",\"reply\":\"journal_bad\"}"
-json_of NoMemory = codes "{\"reply\":\"no_memory\"}"
+json_of (replies.Placed order) = codes "{\"order\":" ++ decimal order ++ codes ",\"reply\":\"placed\"}"
+json_of (replies.Issued order serial certificate) =
+    codes "{\"certificate\":\"" ++ base64_of certificate ++ codes "\",\"order\":" ++ decimal order ++ codes ",\"reply\":\"issued\",\"serial\":\""
+    ++ hex_of serial.0 ++ codes "\"}"
+json_of (replies.Blocked number) = codes "{\"number\":" ++ decimal number ++ codes ",\"reply\":\"blocked\"}"
+json_of replies.RoleDenied = codes "{\"reply\":\"role_denied\"}"
+json_of (replies.ClockRange reading) = codes "{\"reading\":" ++ decimal reading ++ codes ",\"reply\":\"clock_range\"}"
+json_of replies.NoSuchOrder = codes "{\"reply\":\"no_such_order\"}"
+json_of (replies.KeyReused kept) = codes "{\"kept\":" ++ decimal kept ++ codes ",\"reply\":\"key_reused\"}"
+json_of (replies.BadFields rule) = codes "{\"reply\":\"bad_fields\",\"rule\":" ++ decimal rule ++ codes "}"
+json_of (replies.EntropyRepeat value) = codes "{\"reply\":\"entropy_repeat\",\"value\":\"" ++ hex_of value.0 ++ codes "\"}"
+json_of (replies.Refused why) = codes "{\"reply\":\"refused\",\"why\":[" ++ reasons_json why ++ codes "]}"
+json_of replies.Full = codes "{\"reply\":\"full\"}"
+json_of replies.ClockFault = codes "{\"reply\":\"clock_fault\"}"
+json_of replies.EntropyFault = codes "{\"reply\":\"entropy_fault\"}"
+json_of replies.DiskFault = codes "{\"reply\":\"disk_fault\"}"
+json_of replies.SignerFault = codes "{\"reply\":\"signer_fault\"}"
+json_of (replies.JournalBad at) = codes "{\"at\":" ++ decimal at ++ codes ",\"reply\":\"journal_bad\"}"
+json_of replies.NoMemory = codes "{\"reply\":\"no_memory\"}"
 
 -- the status line, the header lines and the empty line, and the body (RFC 9112, section 2.1)
 abbrev pub status_line : ℕ → List ℕ → List ℕ

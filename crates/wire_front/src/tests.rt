@@ -1,6 +1,6 @@
 use super::*;
-use gate_base::{Bytes, Labels, Target, Targets};
-use gate_entries::Command;
+use gate_base::{Bytes, Labels, NoMemory, Sixteen, Target, Targets};
+use gate_entries::{Command, Reply, Why, Whys};
 use std::alloc::Global;
 use std::test::Fail;
 
@@ -137,6 +137,7 @@ fn is_order(command: &Command) -> bool {
                 && request.as_slice() == b"0\0".as_slice()
                 && are_its_names(targets)
         }
+        Command::Finalize { .. } | Command::Block { .. } => false,
     }
 }
 
@@ -159,6 +160,124 @@ fn are_labels(labels: &Labels, left: &[u8], right: &[u8]) -> bool {
 
 fn is_label(label: &Bytes, text: &[u8]) -> bool {
     label.as_slice() == text
+}
+
+/// The bytes of a response with that status line, that size of its body and that body.
+fn response(alloc: Global, status: &str, size: u64, json: &str) -> Result<String, Fail> {
+    let mut text = String::from_str(alloc, "HTTP/1.1 ")?;
+    text.push_str(status)?;
+    text.push_str("\r\ncontent-type: application/json\r\n")?;
+    let length = format!(in alloc; "content-length: {size}\r\n\r\n")?;
+    text.push_str(&length)?;
+    text.push_str(json)?;
+    Ok(text)
+}
+
+const SERIAL: Sixteen = Sixteen([0x40, 0xab, 9, 0xff, 0, 1, 2, 3, 4, 5, 6, 7, 8, 9, 10, 11]);
+
+/// A refusal for keys that the entries with these numbers block.
+fn refused(alloc: Global, numbers: &[u64]) -> Result<Reply, NoMemory> {
+    let mut whys = Vec::new(alloc);
+    for number in numbers {
+        whys.push(Why::KeyBlocked { number: *number })?;
+    }
+    Ok(Reply::Refused {
+        why: Whys::from_vec(whys),
+    })
+}
+
+fn issued(alloc: Global, certificate: &[u8]) -> Result<Reply, NoMemory> {
+    Ok(Reply::Issued {
+        order: 18_446_744_073_709_551_615,
+        serial: SERIAL,
+        certificate: Bytes::from_slice(alloc, certificate)?,
+    })
+}
+
+#[test]
+fn replies_are_spelled(rt: HostRuntime) -> Result<(), Fail> {
+    let alloc = rt.alloc();
+    let rows = [
+        (
+            issued(alloc, b"\x30\x01\x02\xff").expect(&rt, "memory"),
+            "200 OK",
+            116,
+            "{\"certificate\":\"MAEC/w==\",\"order\":18446744073709551615,\"reply\":\"issued\",\
+                \"serial\":\"40ab09ff000102030405060708090a0b\"}",
+        ),
+        (
+            Reply::Blocked { number: 2 },
+            "200 OK",
+            30,
+            "{\"number\":2,\"reply\":\"blocked\"}",
+        ),
+        (
+            Reply::RoleDenied,
+            "403 Forbidden",
+            23,
+            "{\"reply\":\"role_denied\"}",
+        ),
+        (
+            Reply::NoSuchOrder,
+            "404 Not Found",
+            25,
+            "{\"reply\":\"no_such_order\"}",
+        ),
+        (
+            Reply::BadFields { rule: 7 },
+            "422 Unprocessable Entity",
+            31,
+            "{\"reply\":\"bad_fields\",\"rule\":7}",
+        ),
+        (
+            Reply::EntropyRepeat { value: SERIAL },
+            "503 Service Unavailable",
+            69,
+            "{\"reply\":\"entropy_repeat\",\"value\":\"40ab09ff000102030405060708090a0b\"}",
+        ),
+        (
+            refused(alloc, &[]).expect(&rt, "memory"),
+            "422 Unprocessable Entity",
+            28,
+            "{\"reply\":\"refused\",\"why\":[]}",
+        ),
+        (
+            refused(alloc, &[3]).expect(&rt, "memory"),
+            "422 Unprocessable Entity",
+            61,
+            "{\"reply\":\"refused\",\"why\":[{\"number\":3,\"rule\":\"key_blocked\"}]}",
+        ),
+        (
+            refused(alloc, &[3, 12, 4]).expect(&rt, "memory"),
+            "422 Unprocessable Entity",
+            130,
+            "{\"reply\":\"refused\",\"why\":[{\"number\":3,\"rule\":\"key_blocked\"},\
+                {\"number\":12,\"rule\":\"key_blocked\"},{\"number\":4,\"rule\":\"key_blocked\"}]}",
+        ),
+        (
+            Reply::EntropyFault,
+            "503 Service Unavailable",
+            25,
+            "{\"reply\":\"entropy_fault\"}",
+        ),
+        (
+            Reply::SignerFault,
+            "503 Service Unavailable",
+            24,
+            "{\"reply\":\"signer_fault\"}",
+        ),
+        (
+            Reply::Full,
+            "507 Insufficient Storage",
+            16,
+            "{\"reply\":\"full\"}",
+        ),
+    ];
+    for (reply, status, size, json) in rows {
+        let want = response(alloc, status, size, json)?;
+        assert_eq!(rt; reply_text(alloc, &reply)?, want);
+    }
+    Ok(())
 }
 
 #[test]
