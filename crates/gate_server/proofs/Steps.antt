@@ -4,9 +4,12 @@ use Rattle.plant.specs.Causes.{Rose, RoseBy}
 use Rattle.plant.specs.Clock.{ClockTold}
 use Rattle.gate_entries.specs.declared.caller.Caller.{Caller}
 use Rattle.gate_entries.specs.declared.command.Command.{Command}
+use Rattle.gate_entries.specs.declared.command.Command.TheVariants.{Order, Finalize, Block}
 use Rattle.gate_entries.specs.declared.entry.Entry.{Entry}
 use Rattle.gate_entries.specs.declared.reply.Reply.{Reply}
 use Rattle.gate_entries.specs.declared.reply.Reply.TheVariants.{ClockFault, DiskFault}
+use Rattle.gate_entries.specs.Command.{what_of}
+use Rattle.wire_front.specs.Message.{IsMessage}
 use Rattle.gate_machine.specs.declared.answer.Answer.{Answer}
 use Rattle.gate_machine.specs.declared.answer.Answer.TheVariants.{Say, Write}
 use Rattle.gate_machine.specs.Step.{Held, State, Does, Acts, Asks, Goes, EndsRemount, Step, Steps, is_before_reading}
@@ -155,3 +158,9 @@ module _ (follows : (history : List Entry) (caller : Caller) (command : Command)
       → RoseBy (tells_clock reply) old.clock.faults new.clock.faults
   step_clock old new caller command ClockFault step = step_unread old new caller command step
   step_clock old new caller command reply step = no_more _ _ (step_clock_later old new caller command reply step)
+
+-- a message says all of its entry
+pub message_writes : (command : Command) → IsMessage command → what_of command ≢ None
+message_writes (Order key targets days common request) is none = some_none none
+message_writes (Finalize order) is none = is.said
+message_writes (Block key spki) is none = is.said

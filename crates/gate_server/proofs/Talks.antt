@@ -1,5 +1,5 @@
 -- Exchanges one after another.
-use Rattle.std.proofs.Common.{◌≡◌, ℕ, ◌+◌, ◌≤◌, List, [], ◌∷◌, ◌++◌, Option, Some, None, false, refl, sym, ap, subst, ◌∙◌, append_assoc, append-nil, zero-add, arith}
+use Rattle.std.proofs.Common.{◌≡◌, ℕ, ◌+◌, ◌≤◌, List, [], ◌∷◌, ◌++◌, Option, Some, None, false, Result, Ok, Err, inr, refl, sym, ap, subst, ◌∙◌, append_assoc, append-nil, zero-add, arith}
 use Rattle.std.specs.Prelude.{sum_by}
 use Rattle.std.proofs.lemmas.List.Sums.{sum_by-append}
 use Rattle.plant.specs.Causes.{RoseBy}
@@ -15,8 +15,20 @@ use Rattle.plant.specs.Stream.{SourceTold}
 use Rattle.wire_front.specs.Message.{message_of, IsMessage}
 use Rattle.wire_front.specs.Reply.{text_of}
 use Rattle.wire_front.specs.Stream.{StreamState, Passes}
-use Rattle.gate_server.specs.Session.{acme, Talk, Answers, Talked, messages_of, texts_of, tells_disk, tells_clock}
+use Rattle.gate_server.specs.declared.status.Status.{Status}
+use Rattle.gate_server.specs.declared.status.Status.TheVariants as statuses
+use Rattle.gate_server.specs.Session.{acme, Talk, Exchanges, Answers, Turns, PutsReply, Talked, messages_of, texts_of, tells_disk, tells_clock}
 use Rattle.gate_server.proofs.Steps.{steps_more, step_disk, step_clock}
+
+-- a message was asked, and its reply was put or broken off
+pub turns_put : (outcome : Result (Unit {0}) Status) (old new : Talk) (command : Command) (reply : Reply) → Exchanges old new command reply
+    → PutsReply outcome old.sink new.sink (text_of reply) → Turns outcome old new
+turns_put (Ok done) old new command reply exchanges puts = record { command = command; reply = reply; exchanges = exchanges; puts = puts }
+turns_put (Err statuses.WriteFault) old new command reply exchanges puts =
+    (record { command = command; reply = reply; exchanges = exchanges; puts = puts.0 }, puts.1)
+turns_put (Err statuses.NoMemory) old new command reply exchanges puts =
+    inr (record { command = command; reply = reply; exchanges = exchanges; puts = puts })
+turns_put (Err status) old new command reply exchanges puts = absurd puts
 
 each_more : {A : Type 0} (Is : A → Type 0) (items : List A) (item : A) → AllByRecursion Is items → Is item → AllByRecursion Is (items ++ item ∷ [])
 each_more Is [] item each is = (is, tt)

@@ -71,6 +71,7 @@ pub fn answer_messages<P: Plant, C: Clock, E: Entropy, S: Source, K: Sink>(
 }
 
 /// Answers the next message, or tells how the session ends.
+#[tactic(auto, using(crate::proofs::Steps::message_writes))]
 fn turn<P: Plant, C: Clock, E: Entropy, S: Source, K: Sink>(
     alloc: Global,
     engine: &mut Engine,
