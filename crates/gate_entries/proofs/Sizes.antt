@@ -107,6 +107,25 @@ command_spelled number moment caller (commands.Finalize order) number_fits momen
 command_spelled number moment caller (commands.Block key spki) number_fits moment_fits is spelled from =
     written_spelled number moment caller.id (whats.Blocked key spki) number_fits moment_fits from tt spelled (block_size key spki is.key_fits is.spki_fits)
 
+-- ---- what is sent and signed
+
+numbered_size : (order : ℕ) (bytes : List ℕ) → length bytes < 2 ^ 16 → length (to_be_bytes w64 order ++ counted w16 bytes) ≤ 200000
+numbered_size order bytes fits =
+    let e1 = length-append (to_be_bytes w64 order) (counted w16 bytes) in
+    let e2 = length-append (to_be_bytes w16 (length bytes)) bytes in
+    omega (arith, e1, e2, fits)
+
+pub send_spelled : (number : ℕ) (moment : Moment) (caller : List ℕ) (order : ℕ) (body : List ℕ) → number < 2 ^ 64 → moment.0 < 2 ^ 64 → order < 2 ^ 64
+    → length caller ≤ 64 → length body < 2 ^ 16 → IsEntry (entry_with number moment caller (whats.Send order body))
+send_spelled number moment caller order body number_fits moment_fits order_fits from fits =
+    written_spelled number moment caller (whats.Send order body) number_fits moment_fits from tt (order_fits, fits) (numbered_size order body fits)
+
+pub signed_spelled : (number : ℕ) (moment : Moment) (caller : List ℕ) (order : ℕ) (signature : List ℕ) → number < 2 ^ 64 → moment.0 < 2 ^ 64 → order < 2 ^ 64
+    → length caller ≤ 64 → length signature ≤ 1024 → IsEntry (entry_with number moment caller (whats.Signed order signature))
+signed_spelled number moment caller order signature number_fits moment_fits order_fits from fits =
+    let most : length signature < 2 ^ 16 = omega (arith, fits) in
+    written_spelled number moment caller (whats.Signed order signature) number_fits moment_fits from tt (order_fits, most) (numbered_size order signature most)
+
 -- ---- commands that fit
 
 fit_target : (target : Target) → TargetFits target → target_length target ≤ 258

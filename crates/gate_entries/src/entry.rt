@@ -1,8 +1,9 @@
-ghost use Rattle.std.specs.Prelude.{◌≡◌, ◌≤◌, length, IfOk};
+ghost use Rattle.std.specs.Prelude.{◌≡◌, ◌<◌, ◌≤◌, ◌^◌, length, IfOk};
 ghost use Rattle.std.specs.Option.{option_copied};
 ghost use Rattle.gate_entries.specs.Command.{key_of};
 
-use gate_base::{Bytes, Moment, NoMemory, Targets};
+use crate::caller::Caller;
+use gate_base::{Bytes, Moment, NoMemory, Plain, Targets};
 use std::alloc::Global;
 
 /// One entry of the journal.
@@ -62,7 +63,7 @@ impl What {
 
 impl Entry {
     ghost use Rattle.gate_entries.specs.Spelling.{IsEntry};
-    ghost use Rattle.gate_entries.specs.Command.{settings_entry};
+    ghost use Rattle.gate_entries.specs.Command.{settings_entry, entry_with, IsCaller};
 
     /// The entry of settings, which are nobody's.
     pub fn settings(
@@ -95,5 +96,54 @@ impl Entry {
                 bytes: Bytes::from_slice(alloc, bytes)?,
             },
         })
+    }
+
+    /// The entry of a body that is sent for an order.
+    pub fn send(
+        alloc: Global,
+        number: u64,
+        moment: Moment,
+        caller: &Caller,
+        order: u64,
+        body: Bytes,
+    ) -> Result<Entry, NoMemory>
+        requires caller { IsCaller caller.now }
+        requires body { length body < 2 ^ 16 }
+        ensures entry { IfOk result (λ entry. entry ≡ entry_with number moment caller.now.id (What.Send order body)) }
+        ensures spelled { IfOk result IsEntry }
+    {
+        let caller = caller.id.copied(alloc)?;
+        Ok(Entry::made_send(number, moment, caller, order, body))
+    }
+
+    #[tactic(auto, using(crate::proofs::Sizes::send_spelled))]
+    fn made_send(number: u64, moment: Moment, caller: Bytes, order: u64, body: Bytes) -> Entry
+        requires caller { length caller ≤ 64 }
+        requires body { length body < 2 ^ 16 }
+        ensures entry { result ≡ entry_with number moment caller (What.Send order body) }
+        ensures spelled { IsEntry result }
+    {
+        Entry {
+            number,
+            moment,
+            caller,
+            what: What::Send { order, body },
+        }
+    }
+
+    /// The entry of a signature. It takes no memory.
+    #[tactic(auto, using(crate::proofs::Sizes::signed_spelled))]
+    pub fn signed(number: u64, moment: Moment, caller: Bytes, order: u64, signature: Bytes) -> Entry
+        requires caller { length caller ≤ 64 }
+        requires signature { length signature ≤ 1024 }
+        ensures entry { result ≡ entry_with number moment caller (What.Signed order signature) }
+        ensures spelled { IsEntry result }
+    {
+        Entry {
+            number,
+            moment,
+            caller,
+            what: What::Signed { order, signature },
+        }
     }
 }

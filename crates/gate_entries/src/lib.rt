@@ -11,6 +11,7 @@ mod length;
 mod plain;
 mod reading;
 mod reply;
+mod room;
 mod writing;
 
 pub use caller::Caller;
@@ -22,6 +23,7 @@ pub use law::one_spelling;
 pub use length::entry_len;
 pub use reading::{read_entry, read_name_text};
 pub use reply::{Reply, Why, Whys};
+pub use room::put_signed;
 pub use writing::write_entry;
 
 #[cfg(test)]

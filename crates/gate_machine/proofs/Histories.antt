@@ -14,7 +14,8 @@ use Rattle.gate_entries.specs.declared.entry.What.TheVariants as whats
 use Rattle.gate_entries.specs.Command.{entry_with}
 use Rattle.gate_machine.specs.Rules.{BreaksNone}
 use Rattle.gate_machine.specs.History.{last_moment, moment_of, record_size, journal_size, MeetsRow, Follows, EachFollows, Legal}
-use Rattle.gate_machine.specs.Answer.{IsInRange, IsNew, command_moment, entry_of_command}
+use Rattle.gate_machine.specs.Sends.{own_order, signed_for, block_of, spki_of, IsBodyOf, ComesToSigner}
+use Rattle.gate_machine.specs.Answer.{IsInRange, IsNew, command_moment, entry_of_command, send_entry}
 
 -- the last entry of a history that has one more
 pub moment_of-push : (history : List Entry) (entry : Entry) → moment_of (history ++ entry ∷ []) ≡ entry.moment.0
@@ -45,7 +46,7 @@ Legal-push history entry each follows = record {
 each_ended : (before entries : List Entry) → EachFollows before entries → moment_of before ≤ last_moment → moment_of (before ++ entries) ≤ last_moment
 each_ended before [] each ended = subst (λ (b : List Entry). moment_of b ≤ last_moment) (sym (append-nil before)) ended
 each_ended before (entry ∷ entries) each ended =
-    let first : moment_of (before ++ entry ∷ []) ≤ last_moment = subst (λ (m : ℕ). m ≤ last_moment) (sym (moment_of-push before entry)) each.0.ended in
+    let first : moment_of (before ++ entry ∷ []) ≤ last_moment = subst (λ (m : ℕ). m ≤ last_moment) (sym (moment_of-push before entry)) each.0.in_order.ended in
     subst (λ (b : List Entry). moment_of b ≤ last_moment) (append_assoc before (entry ∷ []) entries) (each_ended (before ++ entry ∷ []) entries each.1 first)
 
 none_some : {A : Type 0} {x : A} → None ≡ Some x → ⊥
@@ -53,18 +54,24 @@ none_some is = cc is
 
 -- what a command writes may come behind a legal history, where its key is new and its fields break no rule
 module _ (history : List Entry) (caller : Caller) (reading : ℕ) (legal : Legal history) (in_range : IsInRange reading) where
-  under_key : (what : What) → MeetsRow history caller.id what → IsEntry (entry_with (length history + 1) (command_moment history reading) caller.id what)
+  under_key : (what : What) → MeetsRow history caller.id (command_moment history reading) what → IsEntry (entry_with (length history + 1) (command_moment history reading) caller.id what)
       → Follows history (entry_with (length history + 1) (command_moment history reading) caller.id what)
   under_key what row spelled =
       let ended : moment_of history ≤ last_moment = each_ended [] history legal.each (omega arith) in
       record {
         spelled = spelled;
-        numbered = refl;
-        later = omega arith;
-        begun = omega (arith, in_range.begun);
-        ended = omega (arith, in_range.ended, ended);
+        in_order = record {
+          numbered = refl;
+          later = omega arith;
+          begun = omega (arith, in_range.begun);
+          ended = omega (arith, in_range.ended, ended);
+        };
         row = row;
       }
+
+  sends : (number : ℕ) (body : List ℕ) → ComesToSigner history caller.id number body → IsEntry (send_entry history caller reading number body)
+      → Follows history (send_entry history caller reading number body)
+  sends number body comes spelled = under_key (whats.Send number body) comes spelled
 
   comes : (command : Command) (entry : Entry) → entry_of_command history caller command reading ≡ Some entry → IsEntry entry
       → IsNew history entry → BreaksNone entry.what → Follows history entry
@@ -89,6 +96,14 @@ module _ (history : List Entry) (caller : Caller) (reading : ℕ) (legal : Legal
 pub may_come : (history : List Entry) (caller : Caller) (command : Command) (reading : ℕ) (entry : Entry) → Legal history → IsInRange reading
     → entry_of_command history caller command reading ≡ Some entry → IsEntry entry → IsNew history entry → BreaksNone entry.what → Follows history entry
 may_come history caller command reading entry legal in_range writes spelled new fields = comes history caller reading legal in_range command entry writes spelled new fields
+
+-- a body that is sent may come behind a legal history
+pub send_may_come : (history : List Entry) (caller : Caller) (reading number : ℕ) (body : List ℕ) (order entry : Entry) → Legal history → IsInRange reading
+    → IsEntry entry → entry ≡ send_entry history caller reading number body → own_order caller.id number history ≡ Some order
+    → signed_for number history ≡ None → block_of (spki_of order.what) history ≡ None → IsBodyOf history number order body → Follows history entry
+send_may_come history caller reading number body order entry legal in_range spelled is own unsigned unblocked body_is =
+    subst (λ (e : Entry). Follows history e) (sym is) (sends history caller reading legal in_range number body
+    (record { order = order; own = own; unsigned = unsigned; unblocked = unblocked; body_is = body_is }) (subst IsEntry is spelled))
 
 sum-push : {A : Type 0} (f : A → ℕ) (items : List A) (item : A) → 16 + sum_by f (items ++ item ∷ []) ≡ 16 + sum_by f items + f item
 sum-push f items item =

@@ -1,2 +1,5 @@
+pub mod Bodies
+pub mod Sends
 pub mod Histories
 pub mod Faults
+pub mod Recorded

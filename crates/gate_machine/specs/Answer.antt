@@ -1,5 +1,6 @@
--- What a command is answered over a history and a reading of the clock: a reply to say, or an entry to write.
-use Rattle.std.specs.Prelude.{◌≡◌, ◌≢◌, ℕ, ◌+◌, ◌<◌, ◌≤◌, ◌⊎◌, max, List, length, Option, Some, None}
+-- What a command is answered over a history, a reading of the clock and drawn bytes: a reply to say, an entry to write, a body to
+-- send, or that bytes must be drawn.
+use Rattle.std.specs.Prelude.{◌≡◌, ◌≢◌, ℕ, ◌+◌, ◌<◌, ◌≤◌, ◌⊎◌, max, List, [], ◌∷◌, length, Option, Some, None}
 use Rattle.gate_base.specs.declared.moment.Moment.{Moment}
 use Rattle.gate_entries.specs.declared.caller.Caller.{Caller}
 use Rattle.gate_entries.specs.declared.command.Command.{Command}
@@ -8,9 +9,13 @@ use Rattle.gate_entries.specs.declared.entry.What.{What}
 use Rattle.gate_entries.specs.declared.entry.What.TheVariants as whats
 use Rattle.gate_entries.specs.declared.reply.Reply.{Reply}
 use Rattle.gate_entries.specs.declared.reply.Reply.TheVariants as replies
-use Rattle.gate_entries.specs.Command.{entry_for}
+use Rattle.gate_entries.specs.declared.command.Command.TheVariants as commands
+use Rattle.gate_entries.specs.declared.reply.Why.TheVariants.{KeyBlocked}
+use Rattle.gate_base.specs.declared.sixteen.Sixteen.{Sixteen}
+use Rattle.gate_entries.specs.Command.{entry_with, entry_for}
+use Rattle.gate_machine.specs.Sends.{own_order, sent_for, signed_for, block_of, send_with, spki_of, targets_of, body_in, signature_in, serial_in, masked, small_bytes, certificate_bytes}
 use Rattle.gate_machine.specs.declared.answer.Answer.{Answer}
-use Rattle.gate_machine.specs.declared.answer.Answer.TheVariants.{Say, Write}
+use Rattle.gate_machine.specs.declared.answer.Answer.TheVariants.{Say, Write, Send, NeedDraw}
 use Rattle.gate_machine.specs.Rules.{IsLeastBroken, BreaksNone}
 use Rattle.gate_machine.specs.History.{first_moment, last_moment, moment_of, kept_for, record_size, journal_size, most_bytes, Follows}
 
@@ -75,17 +80,101 @@ AnswersEntry history entry answer = AnswersKept history entry answer ⊎ (IsNew 
 
 -- the answer to a command that says all of its entry
 pub record AnswersWriting (history : List Entry) (caller : Caller) (command : Command) (reading : ℕ) (answer : Answer) : Type 0 where
-  pub in_range : IsInRange reading
   pub entry : Entry
   pub writes : entry_of_command history caller command reading ≡ Some entry
   pub answers : AnswersEntry history entry answer
 
--- the first refusal that holds: a reading out of range, a key with other content, a field that breaks a rule, no room
-abbrev pub Answers : List Entry → Caller → Command → ℕ → Answer → Type 0
-Answers history caller command reading answer =
-    (IsOutOfRange reading × (answer ≡ Say (replies.ClockRange reading))) ⊎ AnswersWriting history caller command reading answer
+-- ---- finalizing
 
--- what is to be written may come behind the history
+-- the entry of a body that is sent
+abbrev pub send_entry : List Entry → Caller → ℕ → ℕ → List ℕ → Entry
+send_entry history caller reading number body = entry_with (length history + 1) (command_moment history reading) caller.id (whats.Send number body)
+
+-- how many bytes the record of the longest signature takes
+abbrev pub most_signed_size : Entry → ℕ
+most_signed_size entry = 1057 + length entry.caller
+
+abbrev pub send_size : List Entry → Entry → ℕ
+send_size history entry = journal_size history + record_size entry + most_signed_size entry
+
+-- the body is sent, or its record and that of the longest signature don't fit together
+abbrev pub AnswersSend : List Entry → Entry → Answer → Type 0
+AnswersSend history entry answer =
+    ((most_bytes < send_size history entry) × (answer ≡ Say replies.Full)) ⊎ ((send_size history entry ≤ most_bytes) × (answer ≡ Send entry))
+
+-- the order's key is blocked
+pub record AnswersBlocked (history : List Entry) (order : Entry) (answer : Answer) : Type 0 where
+  pub block : Entry
+  pub stands : block_of (spki_of order.what) history ≡ Some block
+  pub answer_is : answer ≡ Say (replies.Refused (KeyBlocked block.number ∷ []))
+
+abbrev pub AnswersBody : List Entry → Caller → ℕ → ℕ → Entry → List ℕ → Answer → Type 0
+AnswersBody history caller reading number order body answer =
+    AnswersBlocked history order answer
+    ⊎ ((block_of (spki_of order.what) history ≡ None) × AnswersSend history (send_entry history caller reading number body) answer)
+
+-- a body was sent before, and the same is sent again
+pub record AnswersAgain (history : List Entry) (caller : Caller) (reading number : ℕ) (order : Entry) (answer : Answer) : Type 0 where
+  pub sent : Entry
+  pub stands : sent_for number history ≡ Some sent
+  pub answers : AnswersBody history caller reading number order (body_in sent.what) answer
+
+-- a new body, with a serial number from drawn bytes; or another body has that number
+abbrev pub AnswersSerial : List Entry → Caller → ℕ → ℕ → Entry → Sixteen → Answer → Type 0
+AnswersSerial history caller reading number order draw answer =
+    (((other : Entry) × (send_with (masked draw.0) history ≡ Some other)) × (answer ≡ Say (replies.EntropyRepeat draw)))
+    ⊎ ((send_with (masked draw.0) history ≡ None)
+    × AnswersBody history caller reading number order (small_bytes (masked draw.0) (targets_of order.what)) answer)
+
+abbrev pub AnswersDrawn : List Entry → Caller → ℕ → ℕ → Entry → Option Sixteen → Answer → Type 0
+AnswersDrawn history caller reading number order None answer = answer ≡ NeedDraw
+AnswersDrawn history caller reading number order (Some draw) answer = AnswersSerial history caller reading number order draw answer
+
+-- the order is signed: its certificate is told again
+pub record AnswersSigned (history : List Entry) (number : ℕ) (answer : Answer) : Type 0 where
+  pub signed : Entry
+  pub stands : signed_for number history ≡ Some signed
+  pub sent : Entry
+  pub sent_stands : sent_for number history ≡ Some sent
+  pub serial : Sixteen
+  pub serial_is : serial.0 ≡ serial_in (body_in sent.what)
+  pub answer_is : answer ≡ Say (replies.Issued number serial (certificate_bytes (body_in sent.what) (signature_in signed.what)))
+
+abbrev pub AnswersUnsigned : List Entry → Caller → ℕ → ℕ → Entry → Option Sixteen → Answer → Type 0
+AnswersUnsigned history caller reading number order drawn answer =
+    AnswersAgain history caller reading number order answer
+    ⊎ ((sent_for number history ≡ None) × AnswersDrawn history caller reading number order drawn answer)
+
+abbrev pub AnswersOrder : List Entry → Caller → ℕ → ℕ → Entry → Option Sixteen → Answer → Type 0
+AnswersOrder history caller reading number order drawn answer =
+    AnswersSigned history number answer
+    ⊎ ((signed_for number history ≡ None) × AnswersUnsigned history caller reading number order drawn answer)
+
+pub record AnswersOwn (history : List Entry) (caller : Caller) (reading number : ℕ) (drawn : Option Sixteen) (answer : Answer) : Type 0 where
+  pub order : Entry
+  pub own : own_order caller.id number history ≡ Some order
+  pub answers : AnswersOrder history caller reading number order drawn answer
+
+-- the caller has no such order, or the order is answered
+abbrev pub AnswersFinalize : List Entry → Caller → ℕ → ℕ → Option Sixteen → Answer → Type 0
+AnswersFinalize history caller reading number drawn answer =
+    ((own_order caller.id number history ≡ None) × (answer ≡ Say replies.NoSuchOrder))
+    ⊎ AnswersOwn history caller reading number drawn answer
+
+abbrev pub AnswersCommand : List Entry → Caller → Command → ℕ → Option Sixteen → Answer → Type 0
+AnswersCommand history caller (commands.Finalize number) reading drawn answer = AnswersFinalize history caller reading number drawn answer
+AnswersCommand history caller command reading drawn answer = AnswersWriting history caller command reading answer
+
+-- The first refusal that holds. What is written: a reading out of range, a key with other content, a field that breaks a rule, no
+-- room. What is finalized: a reading out of range, no such order, a serial number that stands, a blocked key, no room.
+abbrev pub Answers : List Entry → Caller → Command → ℕ → Option Sixteen → Answer → Type 0
+Answers history caller command reading drawn answer =
+    (IsOutOfRange reading × (answer ≡ Say (replies.ClockRange reading)))
+    ⊎ (IsInRange reading × AnswersCommand history caller command reading drawn answer)
+
+-- what is to be written or sent may come behind the history
 abbrev pub IsReady : List Entry → Answer → Type 0
 IsReady history (Say reply) = Unit {0}
 IsReady history (Write entry) = Follows history entry
+IsReady history (Send entry) = Follows history entry
+IsReady history NeedDraw = Unit {0}

@@ -1,13 +1,15 @@
 -- What a history is: entries that each may follow those before it.
-use Rattle.std.specs.Prelude.{◌≡◌, ◌≢◌, ℕ, ◌+◌, ◌-◌, ◌≤◌, List, [], ◌∷◌, ◌++◌, length, Bool, false, ◌&&◌, Option, Some, None, find, nat_eq, sum_by, slice_get}
+use Rattle.std.specs.Prelude.{◌≡◌, ◌≢◌, ℕ, ◌+◌, ◌-◌, ◌≤◌, List, [], ◌∷◌, ◌++◌, length, Bool, true, false, ◌&&◌, Option, Some, None, find, sum_by, slice_get}
 use Rattle.std.specs.Option.{option_map_or}
-use Rattle.std.specs.Cmp.Lexicographic.{pointwise}
 use Rattle.gate_entries.specs.declared.entry.Entry.{Entry}
 use Rattle.gate_entries.specs.declared.entry.What.{What}
 use Rattle.gate_entries.specs.declared.entry.What.TheVariants.{Settings, Order, Send, Signed, Blocked}
 use Rattle.gate_entries.specs.Spelling.{entry_bytes, IsEntry}
 use Rattle.gate_entries.specs.Command.{key_of}
+use Rattle.gate_base.specs.declared.moment.Moment.{Moment}
+use Rattle.gate_machine.specs.Keys.{is_same}
 use Rattle.gate_machine.specs.Rules.{BreaksNone}
+use Rattle.gate_machine.specs.Sends.{is_send_for, ComesToSigner}
 
 -- the first and the last moment that a clock may give: 2025-09-15T00:00:00Z and 2099-12-31T23:59:59Z
 abbrev pub first_moment : ℕ
@@ -19,9 +21,6 @@ last_moment = 4102444799
 -- the moment of the last entry
 abbrev pub moment_of : List Entry → ℕ
 moment_of history = option_map_or (λ entry. entry.moment.0) (slice_get history (length history - 1)) 0
-
-abbrev pub is_same : List ℕ → List ℕ → Bool
-is_same left right = pointwise nat_eq left right
 
 -- whether two contents stand under the same retry key
 abbrev pub is_same_key : Option (List ℕ) → Option (List ℕ) → Bool
@@ -42,23 +41,44 @@ pub record ComesUnderKey (before : List Entry) (caller : List ℕ) (what : What)
   pub new : kept_for caller what before ≡ None
   pub fields : BreaksNone what
 
--- what each kind asks of the entries before it: the settings stand first, are nobody's, and are empty so far;
--- an order and a blocked key come under a new key; nothing is sent or signed yet
-abbrev pub MeetsRow : List Entry → List ℕ → What → Type 0
-MeetsRow before caller (Settings bytes) = (before ≡ []) × (caller ≡ []) × (bytes ≡ [])
-MeetsRow before caller (Order key common days targets request) = ComesUnderKey before caller (Order key common days targets request)
-MeetsRow before caller (Blocked key spki) = ComesUnderKey before caller (Blocked key spki)
-MeetsRow before caller (Send order body) = ⊥
-MeetsRow before caller (Signed order signature) = ⊥
+-- a signature comes directly behind what was sent for the same order, by the same caller and at the same moment
+pub record IsSentBy (last : Entry) (caller : List ℕ) (moment : Moment) (number : ℕ) : Type 0 where
+  pub sends : is_send_for number last.what ≡ true
+  pub same_caller : last.caller ≡ caller
+  pub same_moment : last.moment.0 ≡ moment.0
 
--- an entry may come behind these
-pub record Follows (before : List Entry) (entry : Entry) : Type 0 where
-  pub spelled : IsEntry entry
+-- it has 1 to 1,024 bytes
+pub record IsSignature (signature : List ℕ) : Type 0 where
+  pub some : 1 ≤ length signature
+  pub most : length signature ≤ 1024
+
+pub record ComesSigned (before : List Entry) (caller : List ℕ) (moment : Moment) (number : ℕ) (signature : List ℕ) : Type 0 where
+  pub last : Entry
+  pub behind : slice_get before (length before - 1) ≡ Some last
+  pub sent : IsSentBy last caller moment number
+  pub size : IsSignature signature
+
+-- what each kind asks of the entries before it: the settings stand first, are nobody's, and are empty so far;
+-- an order and a blocked key come under a new key
+abbrev pub MeetsRow : List Entry → List ℕ → Moment → What → Type 0
+MeetsRow before caller moment (Settings bytes) = (before ≡ []) × (caller ≡ []) × (bytes ≡ [])
+MeetsRow before caller moment (Order key common days targets request) = ComesUnderKey before caller (Order key common days targets request)
+MeetsRow before caller moment (Blocked key spki) = ComesUnderKey before caller (Blocked key spki)
+MeetsRow before caller moment (Send order body) = ComesToSigner before caller order body
+MeetsRow before caller moment (Signed order signature) = ComesSigned before caller moment order signature
+
+-- an entry's number and moment are right behind these
+pub record IsInOrder (before : List Entry) (entry : Entry) : Type 0 where
   pub numbered : entry.number ≡ length before + 1
   pub later : moment_of before ≤ entry.moment.0
   pub begun : first_moment ≤ entry.moment.0
   pub ended : entry.moment.0 ≤ last_moment
-  pub row : MeetsRow before entry.caller entry.what
+
+-- an entry may come behind these
+pub record Follows (before : List Entry) (entry : Entry) : Type 0 where
+  pub spelled : IsEntry entry
+  pub in_order : IsInOrder before entry
+  pub row : MeetsRow before entry.caller entry.moment entry.what
 
 -- entries that each may come behind those before it
 abbrev pub EachFollows : List Entry → List Entry → Type 0

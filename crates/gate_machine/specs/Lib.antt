@@ -1,4 +1,6 @@
+pub mod Keys
 pub mod Rules
+pub mod Sends
 pub mod History
 pub mod Answer
 pub mod Step

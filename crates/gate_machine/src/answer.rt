@@ -3,25 +3,28 @@ ghost use Rattle.gate_entries.specs.Spelling.{IsEntry};
 ghost use Rattle.gate_entries.specs.Command.{what_of, IsCommand, IsCaller};
 ghost use Rattle.gate_machine.specs.Rules.{BreaksNone};
 ghost use Rattle.gate_machine.specs.History.{journal_size, Legal, Follows};
-ghost use Rattle.gate_machine.specs.Answer.{Answers, AnswersEntry, AnswersNew, IsReady, IsNew, SaysKept, IsInRange, reply_of};
+ghost use Rattle.gate_machine.specs.Answer.{Answers, AnswersCommand, AnswersEntry, AnswersNew, IsReady, IsNew, SaysKept, IsInRange, reply_of};
 
+use crate::finalizing::answer_finalize;
 use crate::following::{FIRST_MOMENT, LAST_MOMENT, find_kept, last_moment};
 use crate::rules::broken_rule;
-use gate_base::{Moment, NoMemory, Plain};
+use gate_base::{Moment, NoMemory, Plain, Sixteen};
 use gate_entries::{Caller, Command, Entry, Reply, What, entry_len};
 use std::alloc::Global;
 
 /// The greatest length of a journal.
-const MOST_BYTES: u64 = 67_108_864;
+pub const MOST_BYTES: u64 = 67_108_864;
 
 /// How many bytes stand before a record's payload.
-const RECORD_HEAD: u64 = 4;
+pub const RECORD_HEAD: u64 = 4;
 
-/// What a command is answered: a reply to say, or an entry to write.
+/// What a command is answered: a reply to say, an entry to write, the entry of a body to send, or that bytes must be drawn.
 #[derive(Debug, Drop)]
 pub enum Answer {
     Say(Reply),
     Write(Entry),
+    Send(Entry),
+    NeedDraw,
 }
 
 /// The answer over a history whose journal has so many bytes. The role isn't judged here.
@@ -33,13 +36,13 @@ pub fn answer_command(
     caller: &Caller,
     command: &Command,
     reading: u64,
+    drawn: Option<Sixteen>,
 ) -> Result<Answer, NoMemory>
     requires legal { Legal history.now }
     requires size { size ≡ journal_size history.now }
     requires caller { IsCaller caller.now }
     requires command { IsCommand command.now }
-    requires writes { what_of command.now ≢ None }
-    ensures answers { IfOk result (Answers history.now caller.now command.now reading) }
+    ensures answers { IfOk result (Answers history.now caller.now command.now reading drawn) }
     ensures ready { IfOk result (IsReady history.now) }
 {
     if !is_in_range(reading) {
@@ -49,7 +52,33 @@ pub fn answer_command(
     let moment = Moment(reading.max(last_moment(history)));
     match command.entry(alloc, number, moment, caller)? {
         Some(entry) => Ok(answer_entry(history, size, entry)),
-        None => unreachable!(),
+        None => answer_other(alloc, history, size, caller, command, reading, drawn),
+    }
+}
+
+/// The answer to a command that doesn't say all of its entry.
+fn answer_other(
+    alloc: Global,
+    history: &[Entry],
+    size: u64,
+    caller: &Caller,
+    command: &Command,
+    reading: u64,
+    drawn: Option<Sixteen>,
+) -> Result<Answer, NoMemory>
+    requires legal { Legal history.now }
+    requires size { size ≡ journal_size history.now }
+    requires caller { IsCaller caller.now }
+    requires in_range { IsInRange reading }
+    requires writes { what_of command.now ≡ None }
+    ensures answers { IfOk result (AnswersCommand history.now caller.now command.now reading drawn) }
+    ensures ready { IfOk result (IsReady history.now) }
+{
+    match command {
+        Command::Finalize { order } => answer_finalize(
+            alloc, history, size, caller, *order, reading, drawn,
+        ),
+        Command::Order { .. } | Command::Block { .. } => unreachable!(),
     }
 }
 

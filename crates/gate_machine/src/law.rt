@@ -1,10 +1,11 @@
 //! What holds of all histories, for the proofs above.
-ghost use Rattle.std.specs.Prelude.{◌≡◌, ℕ, ◌+◌, List, [], ◌∷◌, ◌++◌, false};
+ghost use Rattle.std.specs.Prelude.{◌≡◌, ℕ, ◌+◌, List, [], ◌∷◌, ◌++◌, Some, true, false};
 ghost use Rattle.gate_entries.specs.declared.entry.Entry.{Entry as EntryValue};
 ghost use Rattle.gate_entries.specs.declared.caller.Caller.{Caller as CallerValue};
 ghost use Rattle.gate_entries.specs.declared.command.Command.{Command as CommandValue};
 ghost use Rattle.gate_entries.specs.declared.reply.Reply.{Reply as ReplyValue};
-ghost use Rattle.gate_machine.specs.Step.{Held as HeldValue, Acts, is_before_reading};
+ghost use Rattle.gate_machine.specs.Step.{Held as HeldValue, Devices as DevicesValue, State as StateValue, Acts, Step, is_before_reading, IsRecorded};
+ghost use Rattle.gate_machine.specs.Sends.{is_send_for, sent_for, body_in};
 ghost use Rattle.gate_machine.specs.History.{record_size, journal_size, Follows, EachFollows, Legal};
 
 /// A history with one entry more.
@@ -17,6 +18,18 @@ pub fn one_entry_more()
 
 /// What follows a reading tells neither a clock that failed nor another journal.
 pub fn what_follows_a_reading()
-    ensures { (history : List EntryValue) (caller : CallerValue) (command : CommandValue) (reading : ℕ) (reply : ReplyValue) (new : HeldValue) →
-        Acts history caller command reading reply new → is_before_reading reply ≡ false }
+    ensures { (history : List EntryValue) (caller : CallerValue) (command : CommandValue) (reading : ℕ) (devices : DevicesValue) (reply : ReplyValue)
+        (new : HeldValue) (devices' : DevicesValue) → Acts history caller command reading devices reply new devices' → is_before_reading reply ≡ false }
+{}
+
+/// After a step each body that the signer was sent has an entry of its own, where it had before.
+pub fn what_was_sent_is_recorded()
+    ensures { (old : StateValue) (caller : CallerValue) (command : CommandValue) (reply : ReplyValue) (new : StateValue) →
+        Step old caller command reply new → IsRecorded old.outside.devices.signer old.held.history → IsRecorded new.outside.devices.signer new.held.history }
+{}
+
+/// All bodies that were sent for an order are its one body, the first that was sent.
+pub fn an_order_has_one_body()
+    ensures { (front rest : List EntryValue) (entry : EntryValue) (number : ℕ) → EachFollows [] (front ++ entry ∷ rest) → is_send_for number entry.what ≡ true
+        → (sent : EntryValue) × (sent_for number (front ++ entry ∷ rest) ≡ Some sent) × (body_in entry.what ≡ body_in sent.what) }
 {}

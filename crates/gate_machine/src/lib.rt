@@ -3,11 +3,19 @@
 #![tactic(auto)]
 
 mod answer;
+mod finalizing;
 mod following;
 mod law;
 mod rules;
+mod sending;
 
 pub use answer::{Answer, answer_command, written_reply};
 pub use following::{find_kept, follows, last_moment};
-pub use law::{one_entry_more, what_follows_a_reading};
+pub use law::{
+    an_order_has_one_body, one_entry_more, what_follows_a_reading, what_was_sent_is_recorded,
+};
 pub use rules::broken_rule;
+pub use sending::{
+    block_of, body_in, masked, own_order, send_with, sent_for, serial_in, signature_in, signed_for,
+    spki_of,
+};

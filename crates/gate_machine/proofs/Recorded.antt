@@ -1,0 +1,151 @@
+-- Each body that the signer was sent has an entry of its own.
+use Rattle.std.proofs.Common.{◌≡◌, ℕ, List, [], ◌∷◌, ◌++◌, Option, Some, None, refl, sym, ap, subst, ◌∙◌, inl, inr, append-nil}
+use Rattle.std.specs.Prelude.{IfSome, option_to_list}
+use Rattle.std.specs.Option.{option_map}
+use Rattle.std.specs.List.{flat_map}
+use Rattle.std.proofs.lemmas.Grind.{flat_map-append}
+use Rattle.gate_entries.specs.declared.caller.Caller.{Caller}
+use Rattle.gate_entries.specs.declared.command.Command.{Command}
+use Rattle.gate_entries.specs.declared.entry.Entry.{Entry}
+use Rattle.gate_entries.specs.declared.reply.Reply.{Reply}
+use Rattle.gate_machine.specs.declared.answer.Answer.{Answer}
+use Rattle.gate_machine.specs.declared.answer.Answer.TheVariants.{Say, Write, Send, NeedDraw}
+use Rattle.gate_machine.specs.Sends.{body_in, sent_by, Within}
+use Rattle.gate_machine.specs.Step.{Held, SignerTold, Devices, Outside, State, Settles, Wrote, Sent, Does, Acts, Asks, Goes, Step, bodies_of, IsRecorded}
+use Rattle.gate_machine.proofs.Faults.{MayFollow, may_follow}
+
+within_more : (sent all more : List (List ℕ)) → Within sent all → Within sent (all ++ more)
+within_more [] all more within = tt
+within_more (body ∷ sent) [] more within = absurd within
+within_more (body ∷ sent) (first ∷ all) more within = elim within [
+  | inl here ↦ inl (here.0, within_more sent all more here.1)
+  | inr later ↦ inr (within_more (body ∷ sent) all more later)
+]
+
+within_last : (all : List (List ℕ)) (body : List ℕ) → Within (body ∷ []) (all ++ body ∷ [])
+within_last [] body = inl (refl, tt)
+within_last (first ∷ all) body = inr (within_last all body)
+
+within_both : (sent all : List (List ℕ)) (body : List ℕ) → Within sent all → Within (sent ++ body ∷ []) (all ++ body ∷ [])
+within_both [] all body within = within_last all body
+within_both (first ∷ sent) [] body within = absurd within
+within_both (first ∷ sent) (other ∷ all) body within = elim within [
+  | inl here ↦ inl (here.0, within_both sent all body here.1)
+  | inr later ↦ inr (within_both (first ∷ sent) all body later)
+]
+
+more_entries : (signer : SignerTold) (told : Option (List (List ℕ))) → signer.sent ≡ told → (history more : List Entry) → IsRecorded signer history
+    → IfSome told (λ sent. Within sent (bodies_of (history ++ more)))
+more_entries signer None is history more recorded = tt
+more_entries signer (Some sent) is history more recorded =
+    let now : Within sent (bodies_of history) = subst (λ (o : Option (List (List ℕ))). IfSome o (λ sent. Within sent (bodies_of history))) is recorded in
+    subst (λ (all : List (List ℕ)). Within sent all) (sym (flat_map-append (λ (e : Entry). sent_by e.what) history more))
+    (within_more sent (bodies_of history) (bodies_of more) now)
+
+recorded_more : (signer : SignerTold) (history more : List Entry) → IsRecorded signer history → IsRecorded signer (history ++ more)
+recorded_more signer history more recorded = more_entries signer signer.sent refl history more recorded
+
+as_same : (signer signer' : SignerTold) (history : List Entry) → signer' ≡ signer → IsRecorded signer history → IsRecorded signer' history
+as_same signer signer' history same recorded = subst (λ (s : SignerTold). IsRecorded s history) (sym same) recorded
+
+-- the list of what was sent has one body more, and so has the history
+one_more : (sent sent' : Option (List (List ℕ))) (body : List ℕ) (all : List (List ℕ)) → sent' ≡ option_map (λ (list : List (List ℕ)). list ++ body ∷ []) sent
+    → IfSome sent (λ sent. Within sent all) → IfSome sent' (λ sent. Within sent (all ++ body ∷ []))
+one_more None sent' body all is within = subst (λ (o : Option (List (List ℕ))). IfSome o (λ sent. Within sent (all ++ body ∷ []))) (sym is) tt
+one_more (Some sent) sent' body all is within =
+    subst (λ (o : Option (List (List ℕ))). IfSome o (λ sent. Within sent (all ++ body ∷ []))) (sym is) (within_both sent all body within)
+
+module _ (history : List Entry) (entry : Entry) (sends : sent_by entry.what ≡ body_in entry.what ∷ []) where
+  all_bodies : bodies_of (history ++ entry ∷ []) ≡ bodies_of history ++ body_in entry.what ∷ []
+  all_bodies =
+      flat_map-append (λ (e : Entry). sent_by e.what) history (entry ∷ [])
+      ∙ ap (λ (l : List (List ℕ)). bodies_of history ++ l) (append-nil (sent_by entry.what) ∙ sends)
+
+  added : (signer signer' : SignerTold) → signer'.sent ≡ option_map (λ (list : List (List ℕ)). list ++ body_in entry.what ∷ []) signer.sent
+      → IsRecorded signer history → IsRecorded signer' (history ++ entry ∷ [])
+  added signer signer' is recorded =
+      subst (λ (all : List (List ℕ)). IfSome signer'.sent (λ sent. Within sent all)) (sym all_bodies)
+      (one_more signer.sent signer'.sent (body_in entry.what) (bodies_of history) is recorded)
+
+  kept_list : (signer signer' : SignerTold) → signer'.sent ≡ signer.sent → IsRecorded signer history → IsRecorded signer' (history ++ entry ∷ [])
+  kept_list signer signer' is recorded =
+      subst (λ (o : Option (List (List ℕ))). IfSome o (λ sent. Within sent (bodies_of (history ++ entry ∷ [])))) (sym is)
+      (recorded_more signer history (entry ∷ []) recorded)
+
+as_history : (signer : SignerTold) (history now : List Entry) → now ≡ history → IsRecorded signer history → IsRecorded signer now
+as_history signer history now is recorded = subst (λ (h : List Entry). IsRecorded signer h) (sym is) recorded
+
+wrote : (history : List Entry) (entry : Entry) (reply : Reply) (new : Held) (signer : SignerTold) → Wrote history entry reply new → IsRecorded signer history
+    → IsRecorded signer new.history
+wrote history entry reply new signer is recorded = elim is [
+  | inl committed ↦ as_history signer _ new.history committed.1.0 (recorded_more signer history (entry ∷ []) recorded)
+  | inr lost ↦ as_history signer _ new.history lost.1.same recorded
+]
+
+sent : (history : List Entry) (entry : Entry) (signer : SignerTold) (reply : Reply) (new : Held) (signer' : SignerTold)
+    → sent_by entry.what ≡ body_in entry.what ∷ [] → Sent history entry signer reply new signer' → IsRecorded signer history → IsRecorded signer' new.history
+sent history entry signer reply new signer' sends is recorded = elim is [
+  | inl lost ↦ as_history signer' _ new.history lost.1.same (as_same signer signer' history lost.2 recorded)
+  | inr durable ↦ elim durable [
+    | inl unsigned ↦ as_history signer' _ new.history unsigned.held.0 (elim unsigned.fails.sent [
+      | inl same ↦ kept_list history entry sends signer signer' same recorded
+      | inr more ↦ added history entry sends signer signer' more recorded
+    ])
+    | inr signed ↦ (
+        let now = added history entry sends signer signer' signed.signs.sent recorded in
+        elim signed.commits [
+          | inl issued ↦ as_history signer' _ new.history issued.1.0 (recorded_more signer' (history ++ entry ∷ []) _ now)
+          | inr lost ↦ as_history signer' _ new.history lost.1.same now
+        ]
+        )
+  ]
+]
+
+does : (history : List Entry) (answer : Answer) (signer : SignerTold) (reply : Reply) (new : Held) (signer' : SignerTold) → MayFollow answer
+    → Does answer history signer reply new signer' → IsRecorded signer history → IsRecorded signer' new.history
+does history (Say told) signer reply new signer' may done recorded = as_history signer' _ new.history done.1.0 (as_same signer signer' history done.2 recorded)
+does history (Write entry) signer reply new signer' may done recorded = wrote history entry reply new signer' done.0 (as_same signer signer' history done.1 recorded)
+does history (Send entry) signer reply new signer' may done recorded = sent history entry signer reply new signer' may done recorded
+does history NeedDraw signer reply new signer' may done recorded = absurd done
+
+acts : (history : List Entry) (caller : Caller) (command : Command) (reading : ℕ) (devices : Devices) (reply : Reply) (new : Held) (devices' : Devices)
+    → Acts history caller command reading devices reply new devices' → IsRecorded devices.signer history → IsRecorded devices'.signer new.history
+acts history caller command reading devices reply new devices' is recorded = elim is [
+  | inl memory ↦ as_history devices'.signer _ new.history memory.held.0 (as_same devices.signer devices'.signer history memory.signer recorded)
+  | inr other ↦ elim other [
+    | inl undrawn ↦ as_history devices'.signer _ new.history undrawn.held.0 (as_same devices.signer devices'.signer history undrawn.signer recorded)
+    | inr acted ↦ does history acted.answer devices.signer reply new devices'.signer
+        (may_follow history caller command reading acted.drawn acted.answer acted.answers) acted.does recorded
+  ]
+]
+
+asks : (history : List Entry) (old : Outside) (caller : Caller) (command : Command) (reply : Reply) (new : Held) (now : Outside)
+    → Asks history old caller command reply new now → IsRecorded old.devices.signer history → IsRecorded now.devices.signer new.history
+asks history old caller command reply new now is recorded = elim is [
+  | inl fails ↦ as_history now.devices.signer _ new.history fails.held.0
+      (as_same old.devices.signer now.devices.signer history (ap (λ (d : Devices). d.signer) fails.devices) recorded)
+  | inr read ↦ acts history caller command read.reading old.devices reply new now.devices read.acts recorded
+]
+
+goes : (history : List Entry) (old : Outside) (caller : Caller) (command : Command) (reply : Reply) (new : Held) (now : Outside)
+    → Goes history old caller command reply new now → IsRecorded old.devices.signer history → IsRecorded now.devices.signer new.history
+goes history old caller command reply new now is recorded = elim is [
+  | inl denies ↦ as_history now.devices.signer _ new.history denies.held.0
+      (as_same old.devices.signer now.devices.signer history (ap (λ (o : Outside). o.devices.signer) denies.same) recorded)
+  | inr allowed ↦ asks history old caller command reply new now allowed.1 recorded
+]
+
+settled_recorded : (old : Held) (history : List Entry) (signer : SignerTold) → Settles old history → IsRecorded signer old.history → IsRecorded signer history
+settled_recorded old history signer settles recorded = elim settles [
+  | inl same ↦ as_history signer _ history same recorded
+  | inr more ↦ as_history signer _ history more (recorded_more signer old.history (option_to_list old.loose) recorded)
+]
+
+pub step_recorded : (old : State) (caller : Caller) (command : Command) (reply : Reply) (new : State) → Step old caller command reply new
+    → IsRecorded old.outside.devices.signer old.held.history → IsRecorded new.outside.devices.signer new.held.history
+step_recorded old caller command reply new step recorded = elim step.goes [
+  | inl fails ↦ as_history new.outside.devices.signer _ new.held.history (ap (λ (h : Held). h.history) fails.held)
+      (as_same old.outside.devices.signer new.outside.devices.signer old.held.history (ap (λ (o : Outside). o.devices.signer) fails.same) recorded)
+  | inr settled ↦ goes settled.history old.outside caller command reply new.held new.outside settled.goes
+      (settled_recorded old.held settled.history old.outside.devices.signer settled.settles recorded)
+]

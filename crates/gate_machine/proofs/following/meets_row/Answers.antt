@@ -1,0 +1,10 @@
+use Rattle.std.proofs.Common.{◌↔◌, sym, subst}
+use Rattle.std.specs.Prelude.{IsTrue, IfOk}
+use Rattle.gate_entries.specs.declared.entry.What.{What}
+use Rattle.gate_machine.specs.History.{MeetsRow}
+use Rattle.gate_machine.proofs.following.meets_row.Goals as goal
+
+pub returns-in-Send : goal.returns-in-Send
+returns-in-Send c =
+    subst (λ (w : What). IfOk c.comes_to_signer.result (λ meets. IsTrue meets ↔ MeetsRow c.args.before.now c.args.caller.now c.args.moment w)) (sym c.in-Send.is)
+    c.comes_to_signer.ensures
