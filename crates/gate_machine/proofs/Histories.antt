@@ -1,5 +1,5 @@
 -- Histories that grow at their end.
-use Rattle.std.proofs.Common.{◌≡◌, ℕ, ◌+◌, ◌-◌, ◌<◌, ◌≤◌, List, [], ◌∷◌, ◌++◌, length, Some, None, refl, sym, ap, subst, arith, append_assoc, append-nil, length-append, zero-add}
+use Rattle.std.proofs.Common.{true, ◌≡◌, ℕ, ◌+◌, ◌-◌, ◌<◌, ◌≤◌, List, [], ◌∷◌, ◌++◌, length, Some, None, refl, sym, ap, subst, arith, append_assoc, append-nil, length-append, zero-add}
 use Rattle.std.proofs.Math.Seq.{get_or-append_seam}
 use Rattle.std.proofs.lemmas.List.Sums.{sum_by-append}
 use Rattle.std.proofs.lemmas.Option.{slice_get-get_or}
@@ -13,8 +13,8 @@ use Rattle.gate_entries.specs.declared.entry.What.{What}
 use Rattle.gate_entries.specs.declared.entry.What.TheVariants as whats
 use Rattle.gate_entries.specs.Command.{entry_with}
 use Rattle.gate_machine.specs.Rules.{BreaksNone}
-use Rattle.gate_machine.specs.History.{last_moment, moment_of, record_size, journal_size, MeetsRow, Follows, EachFollows, Legal}
-use Rattle.gate_machine.specs.Sends.{own_order, signed_for, block_of, spki_of, IsBodyOf, ComesToSigner}
+use Rattle.gate_machine.specs.History.{last_moment, moment_of, record_size, journal_size, IsSignature, MeetsRow, Follows, EachFollows, Legal}
+use Rattle.gate_machine.specs.Sends.{is_send_for, order_in, signed_entry, own_order, signed_for, block_of, spki_of, IsBodyOf, ComesToSigner}
 use Rattle.gate_machine.specs.Answer.{IsInRange, IsNew, command_moment, entry_of_command, send_entry}
 
 -- the last entry of a history that has one more
@@ -113,3 +113,28 @@ sum-push f items item =
 
 pub journal_size-push : (history : List Entry) (entry : Entry) → journal_size (history ++ entry ∷ []) ≡ journal_size history + record_size entry
 journal_size-push history entry = sum-push record_size history entry
+
+-- a signature may come directly behind what was sent
+pub signature_follows : (before : List Entry) (entry : Entry) (signature : List ℕ) → Legal before → Follows before entry
+    → is_send_for (order_in entry.what) entry.what ≡ true → IsSignature signature → IsEntry (signed_entry entry signature)
+    → Follows (before ++ entry ∷ []) (signed_entry entry signature)
+signature_follows before entry signature legal follows sends size spelled =
+    let count : length (before ++ entry ∷ []) ≡ length before + 1 = length-append before (entry ∷ []) in
+    let at : length (before ++ entry ∷ []) - 1 ≡ length before = omega arith in
+    let within : length before < length (before ++ entry ∷ []) = omega arith in
+    let now : moment_of (before ++ entry ∷ []) ≡ entry.moment.0 = moment_of-push before entry in
+    record {
+      spelled = spelled;
+      in_order = record {
+        numbered = omega (arith, follows.in_order.numbered, count);
+        later = omega (arith, now);
+        begun = follows.in_order.begun;
+        ended = follows.in_order.ended;
+      };
+      row = record {
+        last = entry;
+        behind = rw (at, slice_get-get_or (before ++ entry ∷ []) (length before) entry within, get_or-append_seam before entry [] entry) refl;
+        sent = record { sends = sends; same_caller = refl; same_moment = refl };
+        size = size;
+      };
+    }

@@ -15,7 +15,7 @@ use Rattle.gate_entries.specs.declared.entry.What.TheVariants.{Settings, Order, 
 use Rattle.gate_entries.specs.Spelling.{IsWhat, AreTargets}
 use Rattle.gate_machine.specs.History.{MeetsRow, ComesSigned, Follows, EachFollows}
 use Rattle.gate_machine.specs.Keys.{is_same}
-use Rattle.gate_machine.specs.Sends.{is_order, is_own_order, own_order, is_send_for, sent_for, is_signed_for, signed_for, body_in, signature_in, targets_of, serial_in, send_with, small_bytes, IsNewBody, IsFresh, HasFreshSerial, TellsNewSerial, IsBodyOf, ComesToSigner}
+use Rattle.gate_machine.specs.Sends.{is_order, is_own_order, own_order, is_send_for, sent_for, is_signed_for, signed_for, body_in, signature_in, targets_of, serial_in, send_with, order_in, signed_entry, IsGoodBody, HasOneBodyEach, small_bytes, IsNewBody, IsFresh, HasFreshSerial, TellsNewSerial, IsBodyOf, ComesToSigner}
 use Rattle.gate_machine.proofs.Bodies.{serial_of_small, all_short}
 
 -- ---- an entry that is found came behind those before it
@@ -85,10 +85,6 @@ targets_fit (Signed number signature) is order = absurd cc
 targets_fit (Blocked key spki) is order = absurd cc
 
 -- ---- bodies that were sent
-
-pub record IsGoodBody (body : List ℕ) : Type 0 where
-  pub serial : length (serial_in body) ≡ 16
-  pub few : length body < 2 ^ 16
 
 new_is_good : (before : List Entry) (targets : List Target) (body : List ℕ) → IsNewBody before targets body → length body < 2 ^ 16 → IsGoodBody body
 new_is_good before targets body new few =
@@ -228,3 +224,18 @@ not_order (Settings bytes) is none = cc is
 not_order (Send number body) is none = cc is
 not_order (Signed number signature) is none = cc is
 not_order (Blocked key spki) is none = cc is
+
+pub one_body_each : (history : List Entry) → EachFollows [] history → HasOneBodyEach history
+one_body_each history each = λ front rest entry number split sends.
+    let follows = follows_inside [] front rest entry (subst (λ (h : List Entry). EachFollows [] h) split each) in
+    let first = each_is_first number front rest entry sends follows in
+    (first.0, ap (sent_for number) split ∙ first.1, first.2)
+
+pub body_is_good : (before : List Entry) (entry : Entry) → EachFollows [] before → Follows before entry → is_send_for (order_in entry.what) entry.what ≡ true
+    → IsGoodBody (body_in entry.what)
+body_is_good before entry each follows sends =
+    let row = send_row (order_in entry.what) before entry sends follows in
+    elim row.0.body_is [
+      | inl again ↦ subst IsGoodBody (sym again.same) (sent_is_good (order_in entry.what) before again.sent each again.stands)
+      | inr new ↦ new_is_good before (targets_of row.0.order.what) (body_in entry.what) new.1 row.1
+    ]

@@ -1,6 +1,6 @@
 -- What a command is answered over a history, a reading of the clock and drawn bytes: a reply to say, an entry to write, a body to
 -- send, or that bytes must be drawn.
-use Rattle.std.specs.Prelude.{◌≡◌, ◌≢◌, ℕ, ◌+◌, ◌<◌, ◌≤◌, ◌⊎◌, max, List, [], ◌∷◌, length, Option, Some, None}
+use Rattle.std.specs.Prelude.{◌≡◌, ◌≢◌, ℕ, ◌+◌, ◌<◌, ◌≤◌, ◌⊎◌, max, true, List, [], ◌∷◌, length, Option, Some, None}
 use Rattle.gate_base.specs.declared.moment.Moment.{Moment}
 use Rattle.gate_entries.specs.declared.caller.Caller.{Caller}
 use Rattle.gate_entries.specs.declared.command.Command.{Command}
@@ -13,7 +13,7 @@ use Rattle.gate_entries.specs.declared.command.Command.TheVariants as commands
 use Rattle.gate_entries.specs.declared.reply.Why.TheVariants.{KeyBlocked}
 use Rattle.gate_base.specs.declared.sixteen.Sixteen.{Sixteen}
 use Rattle.gate_entries.specs.Command.{entry_with, entry_for}
-use Rattle.gate_machine.specs.Sends.{own_order, sent_for, signed_for, block_of, send_with, spki_of, targets_of, body_in, signature_in, serial_in, masked, small_bytes, certificate_bytes}
+use Rattle.gate_machine.specs.Sends.{own_order, is_send_for, order_in, sent_for, signed_for, block_of, send_with, spki_of, targets_of, body_in, signature_in, serial_in, masked, small_bytes, certificate_bytes}
 use Rattle.gate_machine.specs.declared.answer.Answer.{Answer}
 use Rattle.gate_machine.specs.declared.answer.Answer.TheVariants.{Say, Write, Send, NeedDraw}
 use Rattle.gate_machine.specs.Rules.{IsLeastBroken, BreaksNone}
@@ -172,9 +172,24 @@ Answers history caller command reading drawn answer =
     (IsOutOfRange reading × (answer ≡ Say (replies.ClockRange reading)))
     ⊎ (IsInRange reading × AnswersCommand history caller command reading drawn answer)
 
--- what is to be written or sent may come behind the history
+-- what is to be written may come behind the history, and fits
+pub record IsReadyToWrite (history : List Entry) (entry : Entry) : Type 0 where
+  pub follows : Follows history entry
+  pub room : HasRoom history entry
+
+-- what is to be sent may come behind the history, and fits with its signature
+pub record IsReadyToSend (history : List Entry) (entry : Entry) : Type 0 where
+  pub follows : Follows history entry
+  pub room : send_size history entry ≤ most_bytes
+  pub sends : is_send_for (order_in entry.what) entry.what ≡ true
+  pub caller : length entry.caller ≤ 64
+
 abbrev pub IsReady : List Entry → Answer → Type 0
 IsReady history (Say reply) = Unit {0}
-IsReady history (Write entry) = Follows history entry
-IsReady history (Send entry) = Follows history entry
+IsReady history (Write entry) = IsReadyToWrite history entry
+IsReady history (Send entry) = IsReadyToSend history entry
 IsReady history NeedDraw = Unit {0}
+
+-- bytes are drawn once at most
+abbrev pub NeedsNoMore : Option Sixteen → Answer → Type 0
+NeedsNoMore drawn answer = answer ≡ NeedDraw → drawn ≡ None

@@ -1,5 +1,5 @@
 -- What was sent to the signer, and what may be sent.
-use Rattle.std.specs.Prelude.{◌≡◌, ◌≢◌, ℕ, ◌+◌, ◌*◌, ◌-◌, ◌%◌, ◌≤◌, ◌⊎◌, List, [], ◌∷◌, length, take, drop, map, Bool, true, false, nat_eq, nat_lt, ◌&&◌, if◌then◌else◌, Option, Some, None, find}
+use Rattle.std.specs.Prelude.{◌≡◌, ◌≢◌, ℕ, ◌+◌, ◌*◌, ◌-◌, ◌%◌, ◌<◌, ◌≤◌, ◌^◌, ◌⊎◌, List, [], ◌∷◌, ◌++◌, length, take, drop, map, Bool, true, false, nat_eq, nat_lt, ◌&&◌, if◌then◌else◌, Option, Some, None, find}
 use Rattle.gate_base.specs.declared.moment.Moment.{Moment}
 use Rattle.gate_base.specs.declared.name.Target.{Target}
 use Rattle.gate_base.specs.declared.sixteen.Sixteen.{Sixteen}
@@ -10,6 +10,7 @@ use Rattle.tbs_build.specs.Certificate.{certificate_of}
 use Rattle.gate_entries.specs.declared.entry.Entry.{Entry}
 use Rattle.gate_entries.specs.declared.entry.What.{What}
 use Rattle.gate_entries.specs.declared.entry.What.TheVariants.{Settings, Order, Send, Signed, Blocked}
+use Rattle.gate_entries.specs.Command.{entry_with}
 use Rattle.gate_machine.specs.Keys.{is_same}
 
 -- ---- orders
@@ -39,6 +40,11 @@ own_order caller number history = find (is_own_order caller number) history
 abbrev pub is_send_for : ℕ → What → Bool
 is_send_for number (Send order body) = nat_eq order number
 is_send_for number what = false
+
+-- the order for which an entry sent a body
+abbrev pub order_in : What → ℕ
+order_in (Send order body) = order
+order_in what = 0
 
 abbrev pub body_in : What → List ℕ
 body_in (Send order body) = body
@@ -139,7 +145,11 @@ pub record ComesToSigner (before : List Entry) (caller : List ℕ) (number : ℕ
   pub unblocked : block_of (spki_of order.what) before ≡ None
   pub body_is : IsBodyOf before number order body
 
--- ---- certificates
+-- ---- signatures and certificates
+
+-- the entry of the signature of what an entry sent
+abbrev pub signed_entry : Entry → List ℕ → Entry
+signed_entry entry signature = entry_with (entry.number + 1) entry.moment entry.caller (Signed (order_in entry.what) signature)
 
 -- so far each body is signed by ECDSA with SHA-256
 abbrev pub certificate_bytes : List ℕ → List ℕ → List ℕ
@@ -156,3 +166,13 @@ abbrev pub Within : List (List ℕ) → List (List ℕ) → Type 0
 Within [] all = Unit {0}
 Within (body ∷ bodies) [] = ⊥
 Within (body ∷ bodies) (first ∷ all) = ((body ≡ first) × Within bodies all) ⊎ Within (body ∷ bodies) all
+
+-- a body that is sent for an order is the first one that was sent for it
+abbrev pub HasOneBodyEach : List Entry → Type 0
+HasOneBodyEach history = (front rest : List Entry) (entry : Entry) (number : ℕ) → history ≡ front ++ entry ∷ rest → is_send_for number entry.what ≡ true
+    → (sent : Entry) × (sent_for number history ≡ Some sent) × (body_in entry.what ≡ body_in sent.what)
+
+-- a body has a serial number of sixteen bytes, and a number of two bytes counts it
+pub record IsGoodBody (body : List ℕ) : Type 0 where
+  pub serial : length (serial_in body) ≡ 16
+  pub few : length body < 2 ^ 16

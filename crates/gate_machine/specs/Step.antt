@@ -12,12 +12,10 @@ use Rattle.gate_entries.specs.declared.command.Command.{Command}
 use Rattle.gate_entries.specs.declared.entry.Entry.{Entry}
 use Rattle.gate_entries.specs.declared.reply.Reply.{Reply}
 use Rattle.gate_entries.specs.declared.reply.Reply.TheVariants.{Issued, RoleDenied, ClockFault, EntropyFault, DiskFault, SignerFault, JournalBad, NoMemory}
-use Rattle.gate_entries.specs.declared.entry.What.{What}
-use Rattle.gate_entries.specs.declared.entry.What.TheVariants as whats
-use Rattle.gate_entries.specs.Command.{entry_with, may_ask}
+use Rattle.gate_entries.specs.Command.{may_ask}
 use Rattle.gate_machine.specs.declared.answer.Answer.{Answer}
 use Rattle.gate_machine.specs.declared.answer.Answer.TheVariants.{Say, Write, Send, NeedDraw}
-use Rattle.gate_machine.specs.Sends.{body_in, serial_in, sent_by, certificate_bytes, Within}
+use Rattle.gate_machine.specs.Sends.{order_in, body_in, serial_in, sent_by, signed_entry, certificate_bytes, Within}
 use Rattle.gate_machine.specs.Answer.{Answers, reply_of}
 
 -- a gate's history, and the entry whose commit failed, if there is one
@@ -81,15 +79,6 @@ pub record Signs (signer signer' : SignerTold) (body signature : List ℕ) : Typ
   pub later : signer.faults ≤ signer'.faults
   pub some : 1 ≤ length signature
   pub most : length signature ≤ 1024
-
--- the order for which an entry sent a body
-abbrev pub order_in : What → ℕ
-order_in (whats.Send order body) = order
-order_in what = 0
-
--- the entry of the signature of what an entry sent
-abbrev pub signed_entry : Entry → List ℕ → Entry
-signed_entry entry signature = entry_with (entry.number + 1) entry.moment entry.caller (whats.Signed (order_in entry.what) signature)
 
 -- the certificate, with the serial number that stands in its body
 pub record Issues (entry : Entry) (signature : List ℕ) (reply : Reply) : Type 0 where

@@ -12,7 +12,8 @@ mod sending;
 pub use answer::{Answer, answer_command, written_reply};
 pub use following::{find_kept, follows, last_moment};
 pub use law::{
-    an_order_has_one_body, one_entry_more, what_follows_a_reading, what_was_sent_is_recorded,
+    a_body_has_a_serial_number, a_signature_follows, an_order_has_one_body, one_entry_more,
+    what_follows_a_reading, what_was_sent_is_recorded,
 };
 pub use rules::broken_rule;
 pub use sending::{

@@ -4,9 +4,11 @@ use Rattle.gate_machine.proofs.Sends.{is_new, is_no_new}
 use Rattle.gate_machine.proofs.following.is_new_body.Goals as goal
 
 pub returns-in_default : goal.returns-in_default
-returns-in_default c =
-    (λ wrong. absurd (cc wrong), λ new. absurd (is_no_new c.args.before.now (targets_of c.args.order.now.what) c.args.body.now c.requires.few
-    (subst (λ (b : List ℕ). ¬ (HasFreshSerial c.args.before.now b)) c.as_slice.ensures c.in_default.ensures) new))
+returns-in_default c = (
+  λ wrong. absurd (cc wrong),
+  λ new. absurd (is_no_new c.args.before.now (targets_of c.args.order.now.what) c.args.body.now c.requires.few
+      (subst (λ (b : List ℕ). ¬ (HasFreshSerial c.args.before.now b)) c.as_slice.ensures c.in_default.ensures) new),
+)
 
 pub returns : goal.returns
 returns c =
