@@ -3,3 +3,4 @@ pub mod Starts
 pub mod Stands
 pub mod Steps
 pub mod Histories
+pub mod Signings

@@ -3,6 +3,7 @@ use Rattle.std.specs.Prelude.{◌≡◌, ◌≢◌, ℕ, ◌<◌, ◌≤◌, ◌
 use Rattle.gate_base.specs.declared.moment.Moment.{Moment}
 use Rattle.plant.specs.Plant.{PlantTold}
 use Rattle.plant.specs.Clock.{ClockTold}
+use Rattle.plant.specs.Entropy.{EntropyTold}
 use Rattle.journal_core.specs.declared.fault.MountFault.{MountFault}
 use Rattle.journal_core.specs.declared.fault.MountFault.TheVariants as mounts
 use Rattle.gate_engine.specs.declared.fault.StartFault.{StartFault}
@@ -12,7 +13,9 @@ use Rattle.gate_entries.specs.declared.entry.Entry.{Entry}
 use Rattle.gate_entries.specs.Spelling.{entry_bytes}
 use Rattle.gate_entries.specs.Command.{settings_entry}
 use Rattle.gate_machine.specs.History.{journal_size, Follows, EachFollows, Legal}
-use Rattle.gate_machine.specs.Step.{Held, State}
+use Rattle.gate_machine.specs.Step.{Held, Holds, SignerTold, Devices, Outside, State, signer_of}
+use Rattle.gate_entries.specs.declared.reply.Reply.{Reply}
+use Rattle.gate_entries.specs.declared.reply.Reply.TheVariants as replies
 
 -- what the records of a history's journal hold
 abbrev pub payloads_of : List Entry → List (List ℕ)
@@ -29,12 +32,27 @@ pub record Sound (journal : JournalState) (history : List Entry) (loose : Option
   pub broken : journal.broken ≡ is_some loose
   pub waits : IfSome loose (λ entry. Follows history entry)
 
+abbrev pub held_as : List Entry → Option Entry → Held
+held_as history loose = record { history = history; loose = loose }
+
 -- where nothing is loose, the disk reads as the journal of the history
 abbrev pub StandsForPlant : Held → PlantTold → Type 0
 StandsForPlant held told = held.loose ≡ None → StandsFor (payloads_of held.history) told.bytes
 
-abbrev pub state_of : Held → PlantTold → ClockTold → State
-state_of held told clock = record { held = held; disk_faults = told.disk_faults; clock = clock }
+abbrev pub devices_of : PlantTold → EntropyTold → Devices
+devices_of told entropy = record { entropy = entropy; signer = signer_of told }
+
+abbrev pub outside_of : PlantTold → ClockTold → EntropyTold → Outside
+outside_of told clock entropy = record { clock = clock; devices = devices_of told entropy }
+
+abbrev pub state_of : Held → PlantTold → ClockTold → EntropyTold → State
+state_of held told clock entropy = record { held = held; disk_faults = told.disk_faults; outside = outside_of told clock entropy }
+
+-- memory was wanted before anything was written or sent
+pub record WantsRoom (history : List Entry) (signer : SignerTold) (reply : Reply) (new : Held) (signer' : SignerTold) : Type 0 where
+  pub told : reply ≡ replies.NoMemory
+  pub held : Holds new history
+  pub signer_same : signer' ≡ signer
 
 -- the payloads are a history up to this place, and the next one is no entry that may come behind it
 pub record StraysAt (payloads : List (List ℕ)) (at : ℕ) : Type 0 where

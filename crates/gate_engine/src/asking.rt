@@ -1,19 +1,19 @@
 //! How a command is asked.
-ghost use Rattle.std.specs.Prelude.{◌≡◌, ◌≢◌, ℕ, ◌≤◌, ◌↔◌, ◌⊎◌, ◌++◌, None, OnOk, OnErr, IfOk, IfErr, IsErrOf, IsTrue, IsFalse, option_to_list};
+ghost use Rattle.std.specs.Prelude.{◌≡◌, ◌≢◌, ℕ, ◌≤◌, ◌↔◌, ◌⊎◌, ◌++◌, None, OnOk, OnErr, Some, IfOk, IfErr, IsErrOf, IsTrue, IsFalse, option_to_list};
 ghost use Rattle.std.specs.Option.{ForSome};
 ghost use Rattle.plant.specs.Causes.{Rose};
 ghost use Rattle.plant.specs.Plant.{LeavesSigner};
-ghost use Rattle.gate_entries.specs.Command.{what_of, may_ask, IsCommand, IsCaller};
+ghost use Rattle.gate_entries.specs.Command.{IsCommand, IsCaller};
 ghost use Rattle.gate_machine.specs.History.{Follows};
-ghost use Rattle.gate_machine.specs.Answer.{Answers, IsReady};
-ghost use Rattle.gate_machine.specs.Step.{Holds, Settles, EndsRemount, Acts, Asks, Goes, Step};
-ghost use Rattle.gate_engine.specs.Engine.{StandsForPlant, IsForeign, IsOther, state_of};
+ghost use Rattle.gate_base.specs.declared.sixteen.Sixteen.{Sixteen as SixteenValue};
+ghost use Rattle.gate_machine.specs.Answer.{Answers, IsReady, MayBe};
+ghost use Rattle.gate_machine.specs.Step.{Settles, EndsRemount, Does, Acts, Asks, Goes, Step, signer_of};
+ghost use Rattle.gate_engine.specs.Engine.{StandsForPlant, WantsRoom, IsForeign, IsOther, devices_of, outside_of, state_of};
 
 use crate::engine::Engine;
-use crate::fault::{StartFault, WriteFault};
+use crate::fault::StartFault;
 use crate::starting::open;
-use crate::writing::append_entry;
-use gate_base::{NoMemory, Plain, are_same};
+use gate_base::{NoMemory, Plain, Sixteen, are_same};
 use gate_entries::{Caller, Command, Entry, Reply};
 use gate_machine::{Answer, answer_command, what_follows_a_reading};
 use plant::{Clock, Entropy, Plant};
@@ -28,24 +28,21 @@ impl Engine {
         &mut self,
         plant: &mut P,
         clock: &mut C,
-        _entropy: &mut E,
+        entropy: &mut E,
         caller: &Caller,
         command: &Command,
     ) -> Reply
         requires stands { StandsForPlant self.old (P.told plant.old) }
         requires caller { IsCaller caller.now }
         requires command { IsCommand command.now }
-        requires writes { what_of command.now ≢ None }
-        ensures step { Step (state_of self.old (P.told plant.old) (C.told clock.old)) caller.now command.now result
-            (state_of self.new (P.told plant.new) (C.told clock.new)) }
+        ensures step { Step (state_of self.old (P.told plant.old) (C.told clock.old) (E.told entropy.old)) caller.now command.now result
+            (state_of self.new (P.told plant.new) (C.told clock.new) (E.told entropy.new)) }
         // What the disk holds is told as foreign only where it is, and then nothing is taken up.
         ensures foreign { (at : ℕ) → result ≡ Reply.JournalBad at → ForSome (P.told plant.old).bytes (IsForeign self.old at) }
         ensures stands { StandsForPlant self.new (P.told plant.new) }
-        ensures signer { LeavesSigner (P.told plant.old) (P.told plant.new) }
-        ensures entropy { E.told _entropy.new ≡ E.told _entropy.old }
     {
         match self.settle(plant) {
-            Ok(()) => self.ask_settled(plant, clock, caller, command),
+            Ok(()) => self.ask_settled(plant, clock, entropy, caller, command),
             Err(reply) => reply,
         }
     }
@@ -114,10 +111,11 @@ impl Engine {
 
     /// Answers a command with nothing loose.
     #[tactic(auto, using(crate::proofs::Steps::goes_denied, crate::proofs::Steps::goes_allowed))]
-    fn ask_settled<P: Plant, C: Clock>(
+    fn ask_settled<P: Plant, C: Clock, E: Entropy>(
         &mut self,
         plant: &mut P,
         clock: &mut C,
+        entropy: &mut E,
         caller: &Caller,
         command: &Command,
     ) -> Reply
@@ -125,26 +123,26 @@ impl Engine {
         requires stands { StandsForPlant self.old (P.told plant.old) }
         requires caller { IsCaller caller.now }
         requires command { IsCommand command.now }
-        requires writes { what_of command.now ≢ None }
-        ensures goes { Goes self.old.history (C.told clock.old) (C.told clock.new) caller.now command.now result self.new }
+        ensures goes { Goes self.old.history (outside_of (P.told plant.old) (C.told clock.old) (E.told entropy.old)) caller.now command.now result self.new
+            (outside_of (P.told plant.new) (C.told clock.new) (E.told entropy.new)) }
         ensures foreign { (at : ℕ) → result ≢ Reply.JournalBad at }
         ensures disk { result ≡ Reply.DiskFault → Rose (P.told plant.old).disk_faults (P.told plant.new).disk_faults }
         ensures stands { StandsForPlant self.new (P.told plant.new) }
-        ensures signer { LeavesSigner (P.told plant.old) (P.told plant.new) }
         ensures later { (P.told plant.old).disk_faults ≤ (P.told plant.new).disk_faults }
     {
         if !command.allowed(caller.role) {
             return Reply::RoleDenied;
         }
-        self.ask_allowed(plant, clock, caller, command)
+        self.ask_allowed(plant, clock, entropy, caller, command)
     }
 
     /// Answers a command that the caller's role has.
     #[tactic(auto, using(crate::proofs::Steps::asks_read, crate::proofs::Steps::asks_unread, crate::proofs::Steps::not_foreign))]
-    fn ask_allowed<P: Plant, C: Clock>(
+    fn ask_allowed<P: Plant, C: Clock, E: Entropy>(
         &mut self,
         plant: &mut P,
         clock: &mut C,
+        entropy: &mut E,
         caller: &Caller,
         command: &Command,
     ) -> Reply
@@ -152,26 +150,26 @@ impl Engine {
         requires stands { StandsForPlant self.old (P.told plant.old) }
         requires caller { IsCaller caller.now }
         requires command { IsCommand command.now }
-        requires writes { what_of command.now ≢ None }
-        ensures asks { Asks self.old.history (C.told clock.old) (C.told clock.new) caller.now command.now result self.new }
+        ensures asks { Asks self.old.history (outside_of (P.told plant.old) (C.told clock.old) (E.told entropy.old)) caller.now command.now result self.new
+            (outside_of (P.told plant.new) (C.told clock.new) (E.told entropy.new)) }
         ensures foreign { (at : ℕ) → result ≢ Reply.JournalBad at }
         ensures disk { result ≡ Reply.DiskFault → Rose (P.told plant.old).disk_faults (P.told plant.new).disk_faults }
         ensures stands { StandsForPlant self.new (P.told plant.new) }
-        ensures signer { LeavesSigner (P.told plant.old) (P.told plant.new) }
         ensures later { (P.told plant.old).disk_faults ≤ (P.told plant.new).disk_faults }
     {
         what_follows_a_reading();
         match clock.now() {
-            Ok(reading) => self.act(plant, caller, command, reading),
+            Ok(reading) => self.act(plant, entropy, caller, command, reading),
             Err(_) => Reply::ClockFault,
         }
     }
 
-    /// Says the answer over a reading, or writes its entry.
-    #[tactic(auto, using(crate::proofs::Steps::acts_said, crate::proofs::Steps::acts_wrote))]
-    fn act<P: Plant>(
+    /// Does what is answered over a reading.
+    #[tactic(auto, using(crate::proofs::Steps::acts_undrawn, crate::proofs::Steps::acts_memory, crate::proofs::Steps::may_none))]
+    fn act<P: Plant, E: Entropy>(
         &mut self,
         plant: &mut P,
+        entropy: &mut E,
         caller: &Caller,
         command: &Command,
         reading: u64,
@@ -180,26 +178,61 @@ impl Engine {
         requires stands { StandsForPlant self.old (P.told plant.old) }
         requires caller { IsCaller caller.now }
         requires command { IsCommand command.now }
-        requires writes { what_of command.now ≢ None }
-        ensures acts { Acts self.old.history caller.now command.now reading result self.new }
+        ensures acts { Acts self.old.history caller.now command.now reading (devices_of (P.told plant.old) (E.told entropy.old)) result self.new
+            (devices_of (P.told plant.new) (E.told entropy.new)) }
         ensures disk { result ≡ Reply.DiskFault → Rose (P.told plant.old).disk_faults (P.told plant.new).disk_faults }
         ensures stands { StandsForPlant self.new (P.told plant.new) }
-        ensures signer { LeavesSigner (P.told plant.old) (P.told plant.new) }
         ensures later { (P.told plant.old).disk_faults ≤ (P.told plant.new).disk_faults }
     {
-        match self.answer(caller, command, reading) {
-            Ok(Answer::Say(reply)) => reply,
-            Ok(Answer::Write(entry)) => self.write(plant, entry),
+        match self.answer(caller, command, reading, None) {
+            Ok(Answer::NeedDraw) => self.act_drawn(plant, entropy, caller, command, reading),
+            Ok(answer) => self.carry_out(plant, answer),
             Err(NoMemory) => Reply::NoMemory,
         }
     }
 
-    fn answer(&self, caller: &Caller, command: &Command, reading: u64) -> Result<Answer, NoMemory>
+    /// Draws bytes, and does what is answered with them.
+    #[tactic(auto, using(crate::proofs::Steps::acts_drawn, crate::proofs::Steps::acts_no_draw, crate::proofs::Steps::acts_drawn_memory, crate::proofs::Steps::may_some))]
+    fn act_drawn<P: Plant, E: Entropy>(
+        &mut self,
+        plant: &mut P,
+        entropy: &mut E,
+        caller: &Caller,
+        command: &Command,
+        reading: u64,
+    ) -> Reply
+        requires settled { self.old.loose ≡ None }
+        requires stands { StandsForPlant self.old (P.told plant.old) }
         requires caller { IsCaller caller.now }
         requires command { IsCommand command.now }
-        requires writes { what_of command.now ≢ None }
-        ensures answers { IfOk result (Answers self.now.history caller.now command.now reading) }
+        requires needs { Answers self.old.history caller.now command.now reading None Answer.NeedDraw }
+        ensures acts { Acts self.old.history caller.now command.now reading (devices_of (P.told plant.old) (E.told entropy.old)) result self.new
+            (devices_of (P.told plant.new) (E.told entropy.new)) }
+        ensures disk { result ≡ Reply.DiskFault → Rose (P.told plant.old).disk_faults (P.told plant.new).disk_faults }
+        ensures stands { StandsForPlant self.new (P.told plant.new) }
+        ensures later { (P.told plant.old).disk_faults ≤ (P.told plant.new).disk_faults }
+    {
+        let Ok(draw) = entropy.draw16() else {
+            return Reply::EntropyFault;
+        };
+        match self.answer(caller, command, reading, Some(draw)) {
+            Ok(answer) => self.carry_out(plant, answer),
+            Err(NoMemory) => Reply::NoMemory,
+        }
+    }
+
+    fn answer(
+        &self,
+        caller: &Caller,
+        command: &Command,
+        reading: u64,
+        drawn: Option<Sixteen>,
+    ) -> Result<Answer, NoMemory>
+        requires caller { IsCaller caller.now }
+        requires command { IsCommand command.now }
+        ensures answers { IfOk result (Answers self.now.history caller.now command.now reading drawn) }
         ensures ready { IfOk result (IsReady self.now.history) }
+        ensures may { IfOk result (MayBe drawn) }
     {
         answer_command(
             self.alloc,
@@ -208,7 +241,28 @@ impl Engine {
             caller,
             command,
             reading,
+            drawn,
         )
+    }
+
+    /// Says a reply, writes an entry, or sends a body.
+    fn carry_out<P: Plant>(&mut self, plant: &mut P, answer: Answer) -> Reply
+        requires settled { self.old.loose ≡ None }
+        requires stands { StandsForPlant self.old (P.told plant.old) }
+        requires ready { IsReady self.old.history answer }
+        requires may { (draw : SixteenValue) → MayBe (Some draw) answer }
+        ensures does { WantsRoom self.old.history (signer_of (P.told plant.old)) result self.new (signer_of (P.told plant.new))
+            ⊎ Does answer self.old.history (signer_of (P.told plant.old)) result self.new (signer_of (P.told plant.new)) }
+        ensures disk { result ≡ Reply.DiskFault → Rose (P.told plant.old).disk_faults (P.told plant.new).disk_faults }
+        ensures stands { StandsForPlant self.new (P.told plant.new) }
+        ensures later { (P.told plant.old).disk_faults ≤ (P.told plant.new).disk_faults }
+    {
+        match answer {
+            Answer::Say(reply) => reply,
+            Answer::Write(entry) => self.write(plant, entry),
+            Answer::Send(entry) => self.send(plant, entry),
+            Answer::NeedDraw => unreachable!(),
+        }
     }
 }
 

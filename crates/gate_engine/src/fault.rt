@@ -1,6 +1,5 @@
 ghost use Rattle.std.specs.Prelude.{◌≡◌};
 ghost use Rattle.gate_engine.specs.declared.fault.ReplayFault.TheVariants as replays;
-ghost use Rattle.gate_engine.specs.declared.fault.WriteFault.TheVariants as writes;
 
 use gate_base::NoMemory;
 use std::alloc::{AllocError, AllocFailed};
@@ -44,20 +43,5 @@ impl<T: Drop> From<AllocFailed<T>> for ReplayFault {
 
     fn from(_: AllocFailed<T>) -> ReplayFault {
         ReplayFault::NoMemory
-    }
-}
-
-/// Why an entry was not written.
-#[derive(Clone, Copy, Debug, PartialEq, Eq)]
-pub enum WriteFault {
-    Disk,
-    NoMemory,
-}
-
-impl From<NoMemory> for WriteFault {
-    ghost from_gives = { λ _ e. e ≡ writes.NoMemory };
-
-    fn from(_: NoMemory) -> WriteFault {
-        WriteFault::NoMemory
     }
 }

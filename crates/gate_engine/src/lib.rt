@@ -7,6 +7,7 @@ mod engine;
 mod fault;
 mod law;
 mod replaying;
+mod sending;
 mod starting;
 mod writing;
 

@@ -43,7 +43,10 @@ fn replay_each(alloc: Global, payloads: &[Bytes]) -> Result<Vec<Entry>, ReplayFa
     let mut at = FIRST_RECORD;
     let mut rest = payloads;
     while let [payload, after @ ..] = rest {
-        let entry = next_entry(alloc, &history, payload, at)?;
+        let entry = match next_entry(alloc, &history, payload, at) {
+            Ok(entry) => entry,
+            Err(fault) => return Err(fault),
+        };
         history.push(entry)?;
         at = at.saturating_add(payload.len() as u64).saturating_add(4);
         rest = after;
@@ -58,6 +61,7 @@ fn next_entry(
     payload: &Bytes,
     at: u64,
 ) -> Result<Entry, ReplayFault>
+    requires { EachFollows [] before.now }
     ensures spelled { IfOk result (λ entry. payload.now ≡ entry_bytes entry) }
     ensures follows { IfOk result (λ entry. Follows before.now entry) }
     ensures place { (place : ℕ) → IsErrOf result (ReplayFault.Illegal place) → place ≡ at }
@@ -65,7 +69,7 @@ fn next_entry(
 {
     match read_entry(alloc, payload.as_slice()) {
         Ok(entry) => {
-            if !follows(before, &entry) {
+            if !follows(alloc, before, &entry)? {
                 return Err(ReplayFault::Illegal { at });
             }
             Ok(entry)

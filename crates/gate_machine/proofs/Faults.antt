@@ -1,5 +1,5 @@
 -- What may follow a reading.
-use Rattle.std.proofs.Common.{◌≡◌, ℕ, List, [], ◌∷◌, false, Option, Some, None, refl, sym, subst, inl, inr, ap, ◌∙◌}
+use Rattle.std.proofs.Common.{◌≡◌, ◌≢◌, ℕ, List, [], ◌∷◌, false, Option, Some, None, refl, sym, subst, inl, inr, ap, ◌∙◌}
 use Rattle.gate_base.specs.declared.sixteen.Sixteen.{Sixteen}
 use Rattle.gate_entries.specs.declared.caller.Caller.{Caller}
 use Rattle.gate_entries.specs.declared.command.Command.{Command}
@@ -8,6 +8,7 @@ use Rattle.gate_entries.specs.declared.entry.Entry.{Entry}
 use Rattle.gate_entries.specs.declared.entry.What.{What}
 use Rattle.gate_entries.specs.declared.entry.What.TheVariants as whats
 use Rattle.gate_entries.specs.declared.reply.Reply.{Reply}
+use Rattle.gate_entries.specs.declared.reply.Reply.TheVariants.{KeyReused, DiskFault}
 use Rattle.gate_machine.specs.declared.answer.Answer.{Answer}
 use Rattle.gate_machine.specs.declared.answer.Answer.TheVariants.{Say, Write, Send, NeedDraw}
 use Rattle.gate_machine.specs.Sends.{body_in, sent_by}
@@ -34,6 +35,22 @@ says : (kept_entry entry : Entry) (reply : Reply) → SaysKept kept_entry entry 
 says kept_entry entry reply is = elim is [
   | inl same ↦ ap is_before_reading same.1 ∙ kept kept_entry.what kept_entry.number
   | inr other ↦ ap is_before_reading other.1
+]
+
+no_disk : (what : What) (number : ℕ) → reply_to what number ≢ DiskFault
+no_disk (whats.Blocked key spki) number is = cc is
+no_disk (whats.Settings bytes) number is = cc is
+no_disk (whats.Order key common days targets request) number is = cc is
+no_disk (whats.Send order body) number is = cc is
+no_disk (whats.Signed order signature) number is = cc is
+
+no_reuse : (number : ℕ) → KeyReused number ≢ DiskFault
+no_reuse number is = cc is
+
+pub kept_is_no_disk_fault : (kept_entry entry : Entry) (reply : Reply) → SaysKept kept_entry entry reply → reply ≢ DiskFault
+kept_is_no_disk_fault kept_entry entry reply is fault = elim is [
+  | inl same ↦ no_disk kept_entry.what kept_entry.number (sym same.1 ∙ fault)
+  | inr other ↦ no_reuse kept_entry.number (sym other.1 ∙ fault)
 ]
 
 room : (history : List Entry) (entry : Entry) (answer : Answer) → AnswersRoom history entry answer → MayFollow answer

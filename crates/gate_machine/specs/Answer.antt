@@ -190,6 +190,9 @@ IsReady history (Write entry) = IsReadyToWrite history entry
 IsReady history (Send entry) = IsReadyToSend history entry
 IsReady history NeedDraw = Unit {0}
 
--- bytes are drawn once at most
-abbrev pub NeedsNoMore : Option Sixteen → Answer → Type 0
-NeedsNoMore drawn answer = answer ≡ NeedDraw → drawn ≡ None
+-- bytes are drawn once at most, and no answer tells a fault of the disk
+abbrev pub MayBe : Option Sixteen → Answer → Type 0
+MayBe drawn (Say reply) = reply ≢ replies.DiskFault
+MayBe drawn (Write entry) = Unit {0}
+MayBe drawn (Send entry) = Unit {0}
+MayBe drawn NeedDraw = drawn ≡ None

@@ -1,9 +1,10 @@
-ghost use Rattle.std.specs.Prelude.{◌≡◌, ◌≢◌, ◌↔◌, ◌≤◌, None, IsTrue, IfOk};
+ghost use Rattle.std.specs.Prelude.{◌≡◌, ◌≢◌, ◌↔◌, ◌≤◌, Option, None, IsTrue, IfOk};
 ghost use Rattle.gate_entries.specs.Spelling.{IsEntry};
 ghost use Rattle.gate_entries.specs.Command.{what_of, IsCommand, IsCaller};
 ghost use Rattle.gate_machine.specs.Rules.{BreaksNone};
 ghost use Rattle.gate_machine.specs.History.{journal_size, Legal, Follows};
-ghost use Rattle.gate_machine.specs.Answer.{Answers, AnswersCommand, AnswersEntry, AnswersNew, IsReady, NeedsNoMore, IsNew, SaysKept, IsInRange, reply_of};
+ghost use Rattle.gate_base.specs.declared.sixteen.Sixteen.{Sixteen as SixteenValue};
+ghost use Rattle.gate_machine.specs.Answer.{Answers, AnswersCommand, AnswersEntry, AnswersNew, IsReady, MayBe, IsNew, SaysKept, IsInRange, reply_of};
 
 use crate::finalizing::answer_finalize;
 use crate::following::{FIRST_MOMENT, LAST_MOMENT, find_kept, last_moment};
@@ -44,7 +45,7 @@ pub fn answer_command(
     requires command { IsCommand command.now }
     ensures answers { IfOk result (Answers history.now caller.now command.now reading drawn) }
     ensures ready { IfOk result (IsReady history.now) }
-    ensures needs { IfOk result (NeedsNoMore drawn) }
+    ensures may { IfOk result (MayBe drawn) }
 {
     if !is_in_range(reading) {
         return Ok(Answer::Say(Reply::ClockRange { reading }));
@@ -74,7 +75,7 @@ fn answer_other(
     requires writes { what_of command.now ≡ None }
     ensures answers { IfOk result (AnswersCommand history.now caller.now command.now reading drawn) }
     ensures ready { IfOk result (IsReady history.now) }
-    ensures needs { IfOk result (NeedsNoMore drawn) }
+    ensures may { IfOk result (MayBe drawn) }
 {
     match command {
         Command::Finalize { order } => answer_finalize(
@@ -97,7 +98,7 @@ fn answer_entry(history: &[Entry], size: u64, entry: Entry) -> Answer
     requires comes { IsNew history.now entry → BreaksNone entry.what → Follows history.now entry }
     ensures answers { AnswersEntry history.now entry result }
     ensures ready { IsReady history.now result }
-    ensures needs { result ≢ Answer.NeedDraw }
+    ensures may { (other : Option SixteenValue) → MayBe other result }
 {
     match find_kept(history, &entry.caller, &entry.what) {
         Some(kept) => Answer::Say(kept_reply(kept, &entry)),
@@ -106,8 +107,10 @@ fn answer_entry(history: &[Entry], size: u64, entry: Entry) -> Answer
 }
 
 /// The reply under a key that stands.
+#[tactic(auto, using(crate::proofs::Faults::kept_is_no_disk_fault))]
 fn kept_reply(kept: &Entry, entry: &Entry) -> Reply
-    ensures { SaysKept kept.now entry.now result }
+    ensures says { SaysKept kept.now entry.now result }
+    ensures may { result ≢ Reply.DiskFault }
 {
     if kept.what.is_same(&entry.what) {
         written_reply(kept)
@@ -134,7 +137,7 @@ fn answer_new(history: &[Entry], size: u64, entry: Entry) -> Answer
     requires comes { BreaksNone entry.what → Follows history.now entry }
     ensures answers { AnswersNew history.now entry result }
     ensures ready { IsReady history.now result }
-    ensures needs { result ≢ Answer.NeedDraw }
+    ensures may { (other : Option SixteenValue) → MayBe other result }
 {
     if let Some(rule) = broken_rule(&entry.what) {
         return Answer::Say(Reply::BadFields { rule });

@@ -1,11 +1,12 @@
 //! What is answered to a command that has an order finalized.
-ghost use Rattle.std.specs.Prelude.{◌≡◌, ◌≢◌, ◌<◌, ◌≤◌, ◌^◌, Some, None, [], ◌∷◌, length, IfOk};
+ghost use Rattle.std.specs.Prelude.{◌≡◌, ◌≢◌, ◌<◌, ◌≤◌, ◌^◌, Some, Option, None, [], ◌∷◌, length, IfOk};
 ghost use Rattle.tbs_build.specs.Small.{IsSerial};
 ghost use Rattle.gate_entries.specs.Command.{IsCaller};
 ghost use Rattle.gate_machine.specs.History.{journal_size, EachFollows, Legal};
 ghost use Rattle.gate_machine.specs.Sends as sends;
 ghost use Rattle.gate_machine.specs.Sends.{small_bytes, certificate_bytes, IsBodyOf};
-ghost use Rattle.gate_machine.specs.Answer.{AnswersFinalize, AnswersOrder, AnswersSigned, AnswersUnsigned, AnswersDrawn, AnswersBody, IsInRange, IsReady, NeedsNoMore};
+ghost use Rattle.gate_base.specs.declared.sixteen.Sixteen.{Sixteen as SixteenValue};
+ghost use Rattle.gate_machine.specs.Answer.{AnswersFinalize, AnswersOrder, AnswersSigned, AnswersUnsigned, AnswersDrawn, AnswersBody, IsInRange, IsReady, MayBe};
 
 use crate::answer::{Answer, MOST_BYTES, RECORD_HEAD};
 use crate::following::last_moment;
@@ -37,7 +38,7 @@ pub fn answer_finalize(
     requires in_range { IsInRange reading }
     ensures answers { IfOk result (AnswersFinalize history.now caller.now reading number drawn) }
     ensures ready { IfOk result (IsReady history.now) }
-    ensures needs { IfOk result (NeedsNoMore drawn) }
+    ensures may { IfOk result (MayBe drawn) }
 {
     match own_order(history, &caller.id, number) {
         Some(order) => answer_order(alloc, history, size, caller, number, order, reading, drawn),
@@ -63,7 +64,7 @@ fn answer_order(
     requires own { sends.own_order caller.now.id number history.now ≡ Some order.now }
     ensures answers { IfOk result (AnswersOrder history.now caller.now reading number order.now drawn) }
     ensures ready { IfOk result (IsReady history.now) }
-    ensures needs { IfOk result (NeedsNoMore drawn) }
+    ensures may { IfOk result (MayBe drawn) }
 {
     match signed_for(history, number) {
         Some(signed) => answer_signed(alloc, history, number, signed),
@@ -82,7 +83,7 @@ fn answer_signed(
     requires stands { sends.signed_for number history.now ≡ Some signed.now }
     ensures answers { IfOk result (AnswersSigned history.now number) }
     ensures ready { IfOk result (IsReady history.now) }
-    ensures needs { IfOk result (λ answer. answer ≢ Answer.NeedDraw) }
+    ensures may { IfOk result (λ answer. (other : Option SixteenValue) → MayBe other answer) }
 {
     let Some(sent) = sent_for(history, number) else {
         unreachable!();
@@ -130,7 +131,7 @@ fn answer_unsigned(
     requires unsigned { sends.signed_for number history.now ≡ None }
     ensures answers { IfOk result (AnswersUnsigned history.now caller.now reading number order.now drawn) }
     ensures ready { IfOk result (IsReady history.now) }
-    ensures needs { IfOk result (NeedsNoMore drawn) }
+    ensures may { IfOk result (MayBe drawn) }
 {
     match sent_for(history, number) {
         Some(sent) => {
@@ -161,7 +162,7 @@ fn answer_drawn(
     requires unsent { sends.sent_for number history.now ≡ None }
     ensures answers { IfOk result (AnswersDrawn history.now caller.now reading number order.now drawn) }
     ensures ready { IfOk result (IsReady history.now) }
-    ensures needs { IfOk result (NeedsNoMore drawn) }
+    ensures may { IfOk result (MayBe drawn) }
 {
     let Some(draw) = drawn else {
         return Ok(Answer::NeedDraw);
@@ -217,7 +218,7 @@ fn answer_body(
     requires few { length body < 2 ^ 16 }
     ensures answers { IfOk result (AnswersBody history.now caller.now reading number order.now body) }
     ensures ready { IfOk result (IsReady history.now) }
-    ensures needs { IfOk result (λ answer. answer ≢ Answer.NeedDraw) }
+    ensures may { IfOk result (λ answer. (other : Option SixteenValue) → MayBe other answer) }
 {
     if let Some(block) = block_of(history, spki_of(&order.what)) {
         return refused(alloc, block);

@@ -18,5 +18,5 @@ pub use law::{
 pub use rules::broken_rule;
 pub use sending::{
     block_of, body_in, masked, own_order, send_with, sent_for, serial_in, signature_in, signed_for,
-    spki_of,
+    spki_of, to_sixteen,
 };

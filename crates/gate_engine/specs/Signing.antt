@@ -1,0 +1,58 @@
+-- What is at hand when the signer is called.
+use Rattle.std.specs.Prelude.{◌≡◌, ℕ, ◌+◌, ◌<◌, ◌≤◌, ◌⊎◌, List, [], ◌∷◌, ◌++◌, length, vec_capacity}
+use Rattle.gate_entries.specs.declared.entry.Entry.{Entry}
+use Rattle.gate_entries.specs.declared.entry.What.TheVariants as whats
+use Rattle.gate_entries.specs.declared.reply.Reply.{Reply}
+use Rattle.gate_entries.specs.declared.reply.Reply.TheVariants as replies
+use Rattle.gate_entries.specs.Command.{entry_with}
+use Rattle.gate_entries.specs.Spelling.{IsEntry}
+use Rattle.gate_machine.specs.History.{IsSignature, journal_size, Follows}
+use Rattle.gate_machine.specs.Sends.{order_in, body_in, serial_in, certificate_bytes}
+use Rattle.gate_machine.specs.Step.{Held, Holds, Waits, SignerTold, SignerFails, Signs}
+use Rattle.gate_engine.specs.declared.sending.Signing.{Signing}
+
+-- the entry of a signature
+abbrev pub signed_as : Signing → List ℕ → Entry
+signed_as signing signature = entry_with signing.number signing.moment signing.caller (whats.Signed signing.order signature)
+
+-- it is what an entry sends
+pub record IsSigning (signing : Signing) (entry : Entry) : Type 0 where
+  pub order : signing.order ≡ order_in entry.what
+  pub number : signing.number ≡ entry.number + 1
+  pub moment : signing.moment ≡ entry.moment
+  pub caller : signing.caller ≡ entry.caller
+  pub body : signing.body ≡ body_in entry.what
+  pub serial : signing.serial.0 ≡ serial_in (body_in entry.what)
+
+-- there is room for the longest signature, its entry's payload, and its certificate
+pub record HasRoomToSign (signing : Signing) : Type 0 where
+  pub body : length signing.body < 65536
+  pub some : 1 ≤ length signing.body
+  pub certificate : signing.certificate.items ≡ []
+  pub certificate_room : length signing.body + 1100 ≤ vec_capacity signing.certificate
+  pub payload : signing.payload.items ≡ []
+  pub payload_room : length signing.caller + 1053 ≤ vec_capacity signing.payload
+  pub signature : signing.signature.items ≡ []
+  pub signature_room : 1024 ≤ vec_capacity signing.signature
+
+-- a signature may come behind the history, and its record fits
+pub record MayBeSigned (history : List Entry) (signing : Signing) : Type 0 where
+  pub follows : (signature : List ℕ) → IsSignature signature → IsEntry (signed_as signing signature) → Follows history (signed_as signing signature)
+  pub caller : length signing.caller ≤ 64
+  pub room : journal_size history + (1057 + length signing.caller) ≤ 67108864
+
+-- the signature's entry is durable and the certificate told, or the disk failed
+abbrev pub KeepsAs : Signing → List Entry → List ℕ → Reply → Held → Type 0
+KeepsAs signing history signature reply new =
+    ((reply ≡ replies.Issued signing.order signing.serial (certificate_bytes signing.body signature)) × Holds new (history ++ signed_as signing signature ∷ []))
+    ⊎ ((reply ≡ replies.DiskFault) × Waits history (signed_as signing signature) new)
+
+pub record SignedAs (signing : Signing) (history : List Entry) (signer : SignerTold) (reply : Reply) (new : Held) (signer' : SignerTold) : Type 0 where
+  pub signature : List ℕ
+  pub signs : Signs signer signer' signing.body signature
+  pub keeps : KeepsAs signing history signature reply new
+
+-- the signer gave no signature, or it did
+abbrev pub SignsAs : Signing → List Entry → SignerTold → Reply → Held → SignerTold → Type 0
+SignsAs signing history signer reply new signer' =
+    ((reply ≡ replies.SignerFault) × Holds new history × SignerFails signer signer' signing.body) ⊎ SignedAs signing history signer reply new signer'
