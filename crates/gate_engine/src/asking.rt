@@ -7,7 +7,8 @@ ghost use Rattle.gate_entries.specs.Command.{IsCommand, IsCaller};
 ghost use Rattle.gate_machine.specs.History.{Follows};
 ghost use Rattle.gate_base.specs.declared.sixteen.Sixteen.{Sixteen as SixteenValue};
 ghost use Rattle.gate_machine.specs.Answer.{Answers, IsReady, MayBe};
-ghost use Rattle.gate_machine.specs.Step.{Settles, EndsRemount, Does, Acts, Asks, Goes, Step, signer_of};
+ghost use Rattle.gate_machine.specs.Step.{Settles, EndsRemount, Does, Acts, Asks, Goes, Step, IsRecorded, signer_of};
+ghost use Rattle.gate_machine.specs.Sends.{HasOneBodyEach};
 ghost use Rattle.gate_engine.specs.Engine.{StandsForPlant, WantsRoom, IsForeign, IsOther, devices_of, outside_of, state_of};
 
 use crate::engine::Engine;
@@ -15,7 +16,10 @@ use crate::fault::StartFault;
 use crate::starting::open;
 use gate_base::{NoMemory, Plain, Sixteen, are_same};
 use gate_entries::{Caller, Command, Entry, Reply};
-use gate_machine::{Answer, answer_command, what_follows_a_reading};
+use gate_machine::{
+    Answer, an_order_has_one_body, answer_command, what_follows_a_reading,
+    what_was_sent_is_recorded,
+};
 use plant::{Clock, Entropy, Plant};
 
 /// Where the first record lies.
@@ -23,7 +27,6 @@ const FIRST_RECORD: u64 = 16;
 
 impl Engine {
     /// Answers one command. Where an entry is loose, since its commit failed, the journal is mounted again first.
-    #[tactic(auto, using(crate::proofs::Steps::goes_settled, crate::proofs::Steps::goes_nowhere))]
     pub fn ask<P: Plant, C: Clock, E: Entropy>(
         &mut self,
         plant: &mut P,
@@ -38,6 +41,41 @@ impl Engine {
         ensures step { Step (state_of self.old (P.told plant.old) (C.told clock.old) (E.told entropy.old)) caller.now command.now result
             (state_of self.new (P.told plant.new) (C.told clock.new) (E.told entropy.new)) }
         // What the disk holds is told as foreign only where it is, and then nothing is taken up.
+        ensures foreign { (at : ℕ) → result ≡ Reply.JournalBad at → ForSome (P.told plant.old).bytes (IsForeign self.old at) }
+        ensures stands { StandsForPlant self.new (P.told plant.new) }
+        // Each body that the signer was sent has an entry of its own, in order, where it had before.
+        ensures recorded { IsRecorded (signer_of (P.told plant.old)) self.old.history → IsRecorded (signer_of (P.told plant.new)) self.new.history }
+        // All bodies that were sent for an order are the same.
+        ensures one_body { HasOneBodyEach self.new.history }
+    {
+        what_was_sent_is_recorded();
+        let reply = self.ask_once(plant, clock, entropy, caller, command);
+        self.has_one_body_each();
+        reply
+    }
+
+    /// What holds of every engine's history; it does nothing.
+    fn has_one_body_each(&self)
+        ensures { HasOneBodyEach self.now.history }
+    {
+        let _ = &self.history;
+        an_order_has_one_body();
+    }
+
+    #[tactic(auto, using(crate::proofs::Steps::goes_settled, crate::proofs::Steps::goes_nowhere))]
+    fn ask_once<P: Plant, C: Clock, E: Entropy>(
+        &mut self,
+        plant: &mut P,
+        clock: &mut C,
+        entropy: &mut E,
+        caller: &Caller,
+        command: &Command,
+    ) -> Reply
+        requires stands { StandsForPlant self.old (P.told plant.old) }
+        requires caller { IsCaller caller.now }
+        requires command { IsCommand command.now }
+        ensures step { Step (state_of self.old (P.told plant.old) (C.told clock.old) (E.told entropy.old)) caller.now command.now result
+            (state_of self.new (P.told plant.new) (C.told clock.new) (E.told entropy.new)) }
         ensures foreign { (at : ℕ) → result ≡ Reply.JournalBad at → ForSome (P.told plant.old).bytes (IsForeign self.old at) }
         ensures stands { StandsForPlant self.new (P.told plant.new) }
     {

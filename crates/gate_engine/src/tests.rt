@@ -1,7 +1,7 @@
 //! A table of commands, answered by an engine and by a list.
-ghost use Rattle.std.specs.Prelude.{◌≡◌, ◌≢◌, ◌<◌, ◌≤◌, ◌^◌, None, length};
+ghost use Rattle.std.specs.Prelude.{◌≡◌, ◌<◌, ◌≤◌, ◌^◌, length};
 ghost use Rattle.gate_entries.specs.Spelling.{IsTarget, AreTargets};
-ghost use Rattle.gate_entries.specs.Command.{what_of, IsCommand, IsCaller};
+ghost use Rattle.gate_entries.specs.Command.{IsCommand, IsCaller};
 
 use super::*;
 use gate_base::{Bytes, Moment, Role, Sequence, Target, Targets};
@@ -147,7 +147,6 @@ impl Gate {
     fn ask(&mut self, caller: &Caller, command: &Command) -> Reply
         requires caller { IsCaller caller.now }
         requires command { IsCommand command.now }
-        requires writes { what_of command.now ≢ None }
     {
         self.engine.ask(
             &mut self.plant,
@@ -181,8 +180,7 @@ fn one_target(rt: &impl Abort, alloc: Global, text: &[u8]) -> Targets
 }
 
 fn command(rt: &impl Abort, alloc: Global, key: u8, content: Content) -> Command
-    ensures command { IsCommand result }
-    ensures writes { what_of result ≢ None }
+    ensures { IsCommand result }
 {
     Command::Order {
         key: bytes(rt, alloc, key_of(key)),
@@ -242,8 +240,7 @@ fn gate_over(
 /// What is blocked under the retry key of that number.
 fn block(rt: &impl Abort, alloc: Global, key: usize, spki: &[u8]) -> Command
     requires { length spki.now < 2 ^ 16 }
-    ensures command { IsCommand result }
-    ensures writes { what_of result ≢ None }
+    ensures { IsCommand result }
 {
     let key: &[u8] = match key {
         0 => b"k1",

@@ -14,5 +14,5 @@ returns-in-Err-clause-illegal c = λ at is.
     let first = first_of c.loop-rest.rest.now c.payload-item.result _ c.payload-item.is c.in-len1-up.len_at_least in
     let stray = subst (λ (h : List Entry). (entry : Entry) → Follows h entry → c.payload-item.result ≢ entry_bytes entry) c.deref.ensures.value (c.in-Err.ensures.stray at same) in
     strays c.args.payloads.now c.loop-rest.history.items c.payload-item.result rest at
-        (c.loop-rest.invariant.split ∙ ap (λ (l : List (List ℕ)). payloads_of c.loop-rest.history.items ++ l) first) c.loop-rest.invariant.each
-        (c.in-Err.ensures.place at same ∙ c.loop-rest.invariant.place) stray
+    (c.loop-rest.invariant.split ∙ ap (λ (l : List (List ℕ)). payloads_of c.loop-rest.history.items ++ l) first) c.loop-rest.invariant.each
+    (c.in-Err.ensures.place at same ∙ c.loop-rest.invariant.place) stray

@@ -21,9 +21,9 @@ returns-in-Ok-clause-signed g c =
       signature = signature;
       signs = record {
         sent = ap (λ (s : SignerTold). s.sent) left
-        ∙ subst (λ (b : List ℕ). (g.P.Plant.told c.sign.new.self).sent ≡ option_map (λ (list : List (List ℕ)). list ++ b ∷ []) sent) c.as_slice.ensures c.in-Ok.ensures.sent;
+            ∙ subst (λ (b : List ℕ). (g.P.Plant.told c.sign.new.self).sent ≡ option_map (λ (list : List (List ℕ)). list ++ b ∷ []) sent) c.as_slice.ensures c.in-Ok.ensures.sent;
         answers = ap (λ (s : SignerTold). s.answers) left
-        ∙ subst (λ (b : List ℕ). (g.P.Plant.told c.sign.new.self).answers ≡ option_map (λ (list : List (List ℕ × List ℕ)). list ++ (b, signature) ∷ []) answers) c.as_slice.ensures
+            ∙ subst (λ (b : List ℕ). (g.P.Plant.told c.sign.new.self).answers ≡ option_map (λ (list : List (List ℕ × List ℕ)). list ++ (b, signature) ∷ []) answers) c.as_slice.ensures
             c.in-Ok.ensures.answered;
         later = omega (arith, c.in-Ok.ensures.cause.later, ap (λ (s : SignerTold). s.faults) left);
         some = omega (arith, c.in-Ok.ensures.size.0, c.in-Ok.ensures.size.1, length-take c.in-Ok.count c.sign.new.out, c.sign.auto.out);
