@@ -166,7 +166,7 @@ field_found text end bytes x e =
 -- ---- fixed texts that aren't there
 
 -- a list is the front of another
-record IsFront (short long : List ℕ) : Type 0 where
+pub record IsFront (short long : List ℕ) : Type 0 where
   pub rest : List ℕ
   pub whole : long ≡ short ++ rest
 
@@ -203,7 +203,7 @@ other_start text bytes long other more starts =
 
 -- ---- numbers
 
-own : IsNumeralModel (λ (ds : List ℕ). list_all is_digit ds ≡ true) (digits_value 10)
+pub own : IsNumeralModel (λ (ds : List ℕ). list_all is_digit ds ≡ true) (digits_value 10)
 own = numerals_by_value _ (search rules)
 
 numeral_case : (text : List ℕ) → list_all is_digit text ≡ true → 48 < get_or text 0 0 → is_numeral text ≡ true
@@ -257,11 +257,11 @@ too_large text number most fits above is value within same =
 
 -- ---- sizes
 
-all_other : (p q : ℕ → Bool) → ((x : ℕ) → p x ≡ true → q x ≡ true) → (xs : List ℕ) → list_all p xs ≡ true → list_all q xs ≡ true
+pub all_other : (p q : ℕ → Bool) → ((x : ℕ) → p x ≡ true → q x ≡ true) → (xs : List ℕ) → list_all p xs ≡ true → list_all q xs ≡ true
 all_other p q gives [] all = refl
 all_other p q gives (x ∷ xs) all = rw (gives x (left_holds _ _ all)) (all_other p q gives xs (right_holds _ _ all))
 
-digit_other : (byte : ℕ) → byte < 48 → (x : ℕ) → is_digit x ≡ true → is_other byte x ≡ true
+pub digit_other : (byte : ℕ) → byte < 48 → (x : ℕ) → is_digit x ≡ true → is_other byte x ≡ true
 digit_other byte low x digit =
     let least : 48 ≤ x = leb-true 48 x (left_holds _ _ digit) in
     let other : eqb x byte ≡ false = grind (arith, nat_tests) in
@@ -290,7 +290,7 @@ size_so_far bytes missed starts =
     let there : until_at 13 bytes ≡ Some (decimal starts.size, starts.rest) = ap (until_at 13) starts.whole ∙ until_is 13 (decimal starts.size) starts.rest (decimal_free 13 starts.size (omega arith) (size_small starts.size starts.is)) in
     absurd cc
 
-front_of : (byte : ℕ) (a d more rest : List ℕ) → list_all (is_other byte) a ≡ true → a ++ more ≡ d ++ byte ∷ rest → IsFront a d
+pub front_of : (byte : ℕ) (a d more rest : List ℕ) → list_all (is_other byte) a ≡ true → a ++ more ≡ d ++ byte ∷ rest → IsFront a d
 front_of byte [] d more rest free same = record { rest = d; whole = refl }
 front_of byte (x ∷ a) [] more rest free same =
     let e : x ≡ byte = cc in
@@ -303,7 +303,7 @@ front_of byte (x ∷ a) (y ∷ d) more rest free same =
     let later : IsFront a d = front_of byte a d more rest (right_holds (is_other byte x) (list_all (is_other byte) a) free) tails in
     record { rest = later.rest; whole = ap (λ (b : ℕ). b ∷ d) (sym e) ∙ ap (λ (t : List ℕ). x ∷ t) later.whole }
 
-front_all : (p : ℕ → Bool) (a b : List ℕ) → list_all p (a ++ b) ≡ true → list_all p a ≡ true
+pub front_all : (p : ℕ → Bool) (a b : List ℕ) → list_all p (a ++ b) ≡ true → list_all p a ≡ true
 front_all p [] b all = refl
 front_all p (x ∷ a) b all = rw (left_holds (p x) (list_all p (a ++ b)) all) (front_all p a b (right_holds (p x) (list_all p (a ++ b)) all))
 

@@ -1,13 +1,15 @@
--- The one form of message so far: an order of the account `acme`, as the bytes of an HTTP/1.1 request with a JSON body.
+-- The two forms of message, as the bytes of an HTTP/1.1 request of the account `acme` (RFC 9112, section 2.1):
+-- an order, with a JSON body, and the finalizing of an order.
 use Rattle.std.specs.Prelude.{◌≡◌, ◌≢◌, ℕ, ◌≤◌, List, [], ◌∷◌, ◌++◌, length, codes, Bool, ◌&&◌, ◌||◌, nat_le, if◌then◌else◌, IsTrue, false}
 use Rattle.std.specs.List.{flat_map, list_all, AllByRecursion}
 use Rattle.std.specs.Fmt.{decimal}
+use Rattle.std.specs.Str.Parse.{digits_value}
 use Rattle.base64.specs.GeneralPurpose.{encode_of, IsBytes}
 use Rattle.base64.specs.Engines.{standard}
 use Rattle.gate_base.specs.declared.name.Target.{Target}
 use Rattle.gate_base.specs.declared.name.Target.TheVariants.{Dns, Ip}
 use Rattle.gate_entries.specs.declared.command.Command.{Command}
-use Rattle.gate_entries.specs.declared.command.Command.TheVariants.{Order}
+use Rattle.gate_entries.specs.declared.command.Command.TheVariants.{Order, Finalize, Block}
 use Rattle.gate_entries.specs.Command.{IsCommand}
 use Rattle.gate_entries.specs.Name.{name_text, is_name}
 use Rattle.wire_front.specs.declared.message.Found.{Found}
@@ -36,7 +38,7 @@ abbrev pub names_text : List Target → List ℕ
 names_text [] = []
 names_text (target ∷ targets) = quoted (domain_text target) ++ flat_map (λ next. 44 ∷ quoted (domain_text next)) targets
 
--- the body that says a command; only an order is said so far
+-- the body that says an order; another command has none
 unfoldable pub body_of : Command → List ℕ
 body_of (Order key targets days common request) =
     codes "{\"common\":false,\"days\":" ++ decimal days ++ codes ",\"key\":\"" ++ key ++ codes "\",\"names\":[" ++ names_text targets
@@ -48,8 +50,10 @@ abbrev pub framed : List ℕ → List ℕ
 framed body =
     codes "POST /orders HTTP/1.1\r\nhost: gate\r\nx-gate-key: acme-token\r\ncontent-length: " ++ decimal (length body) ++ codes "\r\n\r\n" ++ body
 
-unfoldable pub message_of : Command → List ℕ
-message_of command = framed (body_of command)
+-- the message that finalizes an order, with these digits as its number
+abbrev pub finalize_text : List ℕ → List ℕ
+finalize_text digits =
+    codes "POST /orders/" ++ digits ++ codes "/finalize HTTP/1.1\r\nhost: gate\r\nx-gate-key: acme-token\r\n\r\n"
 
 -- the last label begins with a letter
 abbrev pub last_begins_with_letter : List (List ℕ) → Bool
@@ -99,18 +103,39 @@ pub record IsOrderMessage (key : List ℕ) (targets : List Target) (days : ℕ) 
   pub names_fit : AreNames targets
   pub request_fits : IsRequest request
 
--- a command that a message can say, in a body of at most 65,536 bytes
+-- an order that a body can say
 abbrev pub IsSaid : Command → Type 0
 IsSaid (Order key targets days common request) = IsOrderMessage key targets days common request
 IsSaid command = ⊥
 
-pub record IsMessage (command : Command) : Type 0 where
+-- 1 to 19 digits, of which the first may be zeros
+abbrev pub is_order_number : List ℕ → Bool
+is_order_number digits = nat_le 1 (length digits) && nat_le (length digits) 19 && list_all is_digit digits
+
+-- ---- what bytes ask
+
+-- an order, in a body of at most 65,536 bytes
+pub record AsksOrder (bytes : List ℕ) (command : Command) : Type 0 where
   pub said : IsSaid command
   pub fits : length (body_of command) ≤ 65536
+  pub whole : bytes ≡ framed (body_of command)
+
+-- that the order with that number be finalized
+pub record AsksFinalize (bytes : List ℕ) (order : ℕ) : Type 0 where
+  pub digits : List ℕ
+  pub are : IsTrue (is_order_number digits)
+  pub number : order ≡ digits_value 10 digits
+  pub whole : bytes ≡ finalize_text digits
+
+-- the bytes are a message that asks the command
+abbrev pub IsMessageOf : List ℕ → Command → Type 0
+IsMessageOf bytes (Order key targets days common request) = AsksOrder bytes (Order key targets days common request)
+IsMessageOf bytes (Finalize order) = AsksFinalize bytes order
+IsMessageOf bytes (Block key spki) = ⊥
 
 -- no message stands at the front
 abbrev pub HasNoMessage : List ℕ → Type 0
-HasNoMessage bytes = (command : Command) (rest : List ℕ) → IsMessage command → bytes ≢ message_of command ++ rest
+HasNoMessage bytes = (message rest : List ℕ) (command : Command) → IsMessageOf message command → bytes ≢ message ++ rest
 
 -- nor will one, whatever follows
 abbrev pub NeverHasMessage : List ℕ → Type 0
@@ -118,10 +143,11 @@ NeverHasMessage bytes = (more : List ℕ) → HasNoMessage (bytes ++ more)
 
 -- a message stands at the front, with so many bytes behind it
 pub record BeginsWith (bytes : List ℕ) (command : Command) (left : ℕ) : Type 0 where
-  pub message : IsMessage command
+  pub message : List ℕ
+  pub asks : IsMessageOf message command
   pub spelled : IsCommand command
   pub rest : List ℕ
-  pub whole : bytes ≡ message_of command ++ rest
+  pub whole : bytes ≡ message ++ rest
   pub behind : left ≡ length rest
 
 abbrev pub TellsMessage : List ℕ → Found → Type 0

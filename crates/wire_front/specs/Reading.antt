@@ -1,9 +1,10 @@
 -- What the readers of a message's parts answer.
-use Rattle.std.specs.Prelude.{◌≡◌, ◌≢◌, ℕ, ◌≤◌, ◌<◌, ◌^◌, ◌-◌, List, [], ◌∷◌, ◌++◌, length, take, drop, codes, Bool, true, false, not, ◌&&◌, Option, Some, None, ◌==◌, if◌then◌else◌, nat_eq}
+use Rattle.std.specs.Prelude.{◌≡◌, ◌≢◌, ℕ, ◌≤◌, ◌<◌, ◌^◌, ◌-◌, List, [], ◌∷◌, ◌++◌, length, take, drop, codes, Bool, true, false, not, ◌&&◌, Option, Some, None, ◌==◌, if◌then◌else◌, nat_eq, IsTrue}
 use Rattle.std.specs.Option.{option_map}
 use Rattle.std.specs.List.{list_all}
 use Rattle.std.specs.Cmp.Lexicographic.{pointwise}
 use Rattle.std.specs.Fmt.{decimal}
+use Rattle.std.specs.Str.Parse.{digits_value}
 use Rattle.base64.specs.GeneralPurpose.{encode_of}
 use Rattle.base64.specs.Engines.{standard}
 use Rattle.gate_base.specs.declared.name.Target.{Target}
@@ -11,7 +12,20 @@ use Rattle.gate_entries.specs.declared.command.Command.{Command}
 use Rattle.gate_entries.specs.declared.command.Command.TheVariants.{Order}
 use Rattle.wire_front.specs.declared.cutting.Absent.{Absent}
 use Rattle.wire_front.specs.declared.cutting.Absent.TheVariants as absents
-use Rattle.wire_front.specs.Message.{domain_text, quoted, names_text, framed, is_digit, IsDomain}
+use Rattle.wire_front.specs.declared.message.Found.{Found}
+use Rattle.wire_front.specs.declared.message.Found.TheVariants as found
+use Rattle.wire_front.specs.Message.{domain_text, quoted, names_text, framed, is_digit, is_order_number, IsDomain, AsksOrder, AsksFinalize, BeginsWith}
+
+-- no order stands at the front
+abbrev pub HasNoOrder : List ℕ → Type 0
+HasNoOrder bytes = (message rest : List ℕ) (command : Command) → AsksOrder message command → bytes ≢ message ++ rest
+
+-- what is told of orders alone
+abbrev pub TellsOrder : List ℕ → Found → Type 0
+TellsOrder bytes (found.Message command left) = BeginsWith bytes command left
+TellsOrder bytes found.More = HasNoOrder bytes
+TellsOrder bytes found.Never = (1 ≤ length bytes) × ((more : List ℕ) → HasNoOrder (bytes ++ more))
+TellsOrder bytes found.NoMemory = Unit {0}
 
 -- the value that a text spells, or that it spells none
 abbrev pub Reads : {A B : Type 0} → (A → B) → (A → Type 0) → B → Option A → Type 0
@@ -54,6 +68,29 @@ pub record StartsWithFrame (bytes : List ℕ) : Type 0 where
   pub rest : List ℕ
   pub is : IsSize (length body)
   pub whole : bytes ≡ framed body ++ rest
+
+-- an order's number with a slash behind it, and what stands behind that
+pub record ReadsNumber (bytes : List ℕ) (order : ℕ) (rest : List ℕ) : Type 0 where
+  pub digits : List ℕ
+  pub are : IsTrue (is_order_number digits)
+  pub number : order ≡ digits_value 10 digits
+  pub whole : bytes ≡ digits ++ 47 ∷ rest
+
+pub record StartsWithNumber (bytes : List ℕ) : Type 0 where
+  pub order : ℕ
+  pub rest : List ℕ
+  pub reads : ReadsNumber bytes order rest
+
+-- a message that finalizes the order, and what stands behind it
+pub record ReadsFinalize (bytes : List ℕ) (order : ℕ) (rest : List ℕ) : Type 0 where
+  pub message : List ℕ
+  pub asks : AsksFinalize message order
+  pub whole : bytes ≡ message ++ rest
+
+pub record StartsWithFinalize (bytes : List ℕ) : Type 0 where
+  pub order : ℕ
+  pub rest : List ℕ
+  pub reads : ReadsFinalize bytes order rest
 
 abbrev pub with_first : ℕ → List ℕ × List ℕ → List ℕ × List ℕ
 with_first byte parts = (byte ∷ parts.0, parts.1)

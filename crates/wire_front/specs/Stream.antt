@@ -3,12 +3,13 @@ use Rattle.std.specs.Prelude.{◌≡◌, ℕ, ◌+◌, ◌<◌, ◌≤◌, ◌^�
 use Rattle.std.specs.Io.KnownBytes.{prepend_known, Consumes, IsAtEnd}
 use Rattle.plant.specs.Causes.{Rose}
 use Rattle.plant.specs.Stream.{SourceTold}
+use Rattle.gate_entries.specs.declared.command.Command.{Command}
 use Rattle.gate_entries.specs.Command.{IsCommand}
 use Rattle.wire_front.specs.declared.streaming.Taken.{Taken}
 use Rattle.wire_front.specs.declared.streaming.Taken.TheVariants as takes
 use Rattle.wire_front.specs.declared.streaming.More.{More}
 use Rattle.wire_front.specs.declared.streaming.More.TheVariants as mores
-use Rattle.wire_front.specs.Message.{message_of, IsMessage, HasNoMessage}
+use Rattle.wire_front.specs.Message.{IsMessageOf, HasNoMessage}
 
 -- the bytes that were taken and not yet used, and how many were taken in all
 pub record StreamState : Type 0 where
@@ -24,18 +25,21 @@ pub record Passes (old : StreamState) (source : SourceTold) (new : StreamState) 
   pub gone : Consumes (prepend_known old.held source.left) (prepend_known new.held source'.left) bytes
   pub count : new.taken + length old.held ≡ old.taken + length bytes + length new.held
 
--- the bytes that a message took
-abbrev pub given : Taken → List ℕ
-given (takes.Message command) = message_of command
-given takes.End = []
-given takes.NotBuilt = []
-given takes.Fault = []
-given takes.StreamLong = []
-given takes.NoMemory = []
+-- the bytes of a message went
+pub record TakesMessage (command : Command) (old : StreamState) (source : SourceTold) (new : StreamState) (source' : SourceTold) : Type 0 where
+  pub bytes : List ℕ
+  pub asks : IsMessageOf bytes command
+  pub some : 1 ≤ length bytes
+  pub passes : Passes old source new source' bytes
+
+-- the bytes of what was taken went: those of a message, and else none
+abbrev pub Takes : Taken → StreamState → SourceTold → StreamState → SourceTold → Type 0
+Takes (takes.Message command) old source new source' = TakesMessage command old source new source'
+Takes taken old source new source' = Passes old source new source' []
 
 -- what comes next: a message; the end; bytes that aren't the end and begin with no message; or why it isn't known
 abbrev pub Tells : Taken → StreamState → SourceTold → SourceTold → Type 0
-Tells (takes.Message command) stream source source' = IsMessage command × IsCommand command × (1 ≤ length (message_of command))
+Tells (takes.Message command) stream source source' = IsCommand command
 Tells takes.End stream source source' = (stream.held ≡ []) × IsAtEnd source'.left
 Tells takes.NotBuilt stream source source' = IfSome source'.left (λ more. HasNoMessage (stream.held ++ more) × (1 ≤ length (stream.held ++ more)))
 Tells takes.Fault stream source source' = HasNoMessage stream.held × Rose source.faults source'.faults

@@ -153,7 +153,7 @@ fn is_numeral(text: &[u8]) -> bool
     }
 }
 
-fn are_digits(bytes: &[u8]) -> bool
+pub fn are_digits(bytes: &[u8]) -> bool
     ensures { result ≡ list_all is_digit bytes.now }
 {
     bytes.iter().all(|byte| is_digit(*byte))

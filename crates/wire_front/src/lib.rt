@@ -2,6 +2,7 @@
 #![tactic(auto)]
 
 mod cutting;
+mod finalizing;
 mod law;
 mod message;
 mod naming;

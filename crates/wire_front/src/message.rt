@@ -1,15 +1,16 @@
-//! The one form of message: an order of the account `acme`.
+//! The two forms of message, both of the account `acme`: an order, and the finalizing of an order.
 ghost use Rattle.std.specs.Prelude.{◌≡◌, ◌++◌, length, IfOk, IfErr};
 ghost use Rattle.std.specs.Option.{option_map};
 ghost use Rattle.std.specs.Fmt.{decimal};
 ghost use Rattle.base64.specs.GeneralPurpose.{encode_of};
 ghost use Rattle.base64.specs.Engines.{standard};
 ghost use Rattle.wire_front.specs.Message.{body_of, framed, is_key, IsRequest, IsDays, IsSaid, TellsMessage};
-ghost use Rattle.wire_front.specs.Reading.{Reads, IsAbsent, StartsWithFrame, IsSize, members_at, texts_of};
+ghost use Rattle.wire_front.specs.Reading.{TellsOrder, Reads, IsAbsent, StartsWithFrame, IsSize, members_at, texts_of};
 
 use crate::cutting::{
     Absent, read_number, strip_end, strip_field, strip_size, strip_start, strip_text,
 };
+use crate::finalizing::find_finalize;
 use crate::naming::{are_plain_bytes, read_targets};
 use base64::DecodeAllocError;
 use base64::engine::general_purpose::STANDARD;
@@ -17,7 +18,7 @@ use gate_base::{Bytes, NoMemory};
 use gate_entries::Command;
 use std::alloc::Global;
 
-/// The lines of the head, up to the body's length.
+/// The lines of an order's head, up to the body's length.
 const HEAD: &[u8] =
     b"POST /orders HTTP/1.1\r\nhost: gate\r\nx-gate-key: acme-token\r\ncontent-length: ";
 
@@ -47,6 +48,23 @@ pub enum Found {
 /// Finds the message at the front.
 pub fn find_message(alloc: Global, bytes: &[u8]) -> Found
     ensures { TellsMessage bytes.now result }
+{
+    match find_finalize(bytes) {
+        Ok((order, behind)) => Found::Message {
+            command: Command::Finalize { order },
+            left: behind.len(),
+        },
+        Err(Absent::SoFar) => match find_order(alloc, bytes) {
+            Found::Never => Found::More,
+            found => found,
+        },
+        Err(Absent::ForGood) => find_order(alloc, bytes),
+    }
+}
+
+/// Finds the order at the front.
+fn find_order(alloc: Global, bytes: &[u8]) -> Found
+    ensures { TellsOrder bytes.now result }
 {
     match find_body(bytes) {
         Ok((body, behind)) => match read_body(alloc, body) {

@@ -1,7 +1,7 @@
 //! The source's bytes, and one message after another from them.
 ghost use Rattle.std.specs.Prelude.{◌≡◌, ◌-◌, ◌≤◌, [], length, drop};
 ghost use Rattle.wire_front.specs.Message.{BeginsWith};
-ghost use Rattle.wire_front.specs.Stream.{Passes, Tells, Gives, given, most_taken};
+ghost use Rattle.wire_front.specs.Stream.{Passes, Takes, Tells, Gives, most_taken};
 
 use crate::message::{Found, find_message};
 use gate_entries::Command;
@@ -21,7 +21,7 @@ pub enum Taken {
     Message(Command),
     /// The source ended, and nothing is left.
     End,
-    /// What stands next is no message of the one form.
+    /// What stands next is no message of the two forms.
     NotBuilt,
     Fault,
     StreamLong,
@@ -60,7 +60,7 @@ impl Stream {
     /// The next message. Whatever is answered, no byte is lost.
     pub fn take_message<S: Source>(&mut self, alloc: Global, source: &mut S) -> Taken
         ensures tells { Tells result self.new (S.told source.old) (S.told source.new) }
-        ensures passes { Passes self.old (S.told source.old) self.new (S.told source.new) (given result) }
+        ensures takes { Takes result self.old (S.told source.old) self.new (S.told source.new) }
         ensures fits { self.new.taken ≤ most_taken }
         ensures later { (S.told source.old).faults ≤ (S.told source.new).faults }
     {
@@ -86,7 +86,6 @@ impl Stream {
     }
 
     /// Keeps what stands behind a message.
-    #[tactic(auto, using(crate::proofs::Messages::some_message))]
     fn use_up<S: Source>(
         &mut self,
         alloc: Global,
@@ -97,7 +96,7 @@ impl Stream {
         requires { BeginsWith self.old.held command left }
         ensures tells { Tells result self.new (S.told source.now) (S.told source.now) }
         ensures taken { self.new.taken ≡ self.old.taken }
-        ensures passes { Passes self.old (S.told source.now) self.new (S.told source.now) (given result) }
+        ensures takes { Takes result self.old (S.told source.now) self.new (S.told source.now) }
     {
         match Vec::from_slice(alloc, last_of(&self.held, left)) {
             Ok(rest) => {

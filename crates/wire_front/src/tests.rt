@@ -1,6 +1,7 @@
 use super::*;
 use gate_base::{Bytes, Labels, NoMemory, Sixteen, Target, Targets};
 use gate_entries::{Command, Reply, Why, Whys};
+use plant::{Calls, MemorySource};
 use std::alloc::Global;
 use std::test::Fail;
 
@@ -14,6 +15,13 @@ const THREE_LABELS: &str = ".bbbbbbbbbbbbbbbbbbbbbbbbbbbbbbbbbbbbbbbbbbbbbbbbbbb
     .bbbbbbbbbbbbbbbbbbbbbbbbbbbbbbbbbbbbbbbbbbbbbbbbbbbbbbbbbbbbbbb";
 
 const HEAD: &str = "POST /orders HTTP/1.1\r\nhost: gate\r\nx-gate-key: acme-token\r\n";
+
+/// A message that finalizes order 7.
+const FINALIZE: &[u8] =
+    b"POST /orders/007/finalize HTTP/1.1\r\nhost: gate\r\nx-gate-key: acme-token\r\n\r\n";
+
+/// What stands behind the number of an order to finalize, and a byte behind it.
+const FINALIZE_END: &str = "/finalize HTTP/1.1\r\nhost: gate\r\nx-gate-key: acme-token\r\n\r\nP";
 
 const MESSAGE: u64 = 1_000;
 
@@ -162,6 +170,28 @@ fn is_label(label: &Bytes, text: &[u8]) -> bool {
     label.as_slice() == text
 }
 
+/// What is found where this stands behind `POST /orders/`.
+fn routed(alloc: Global, rest: &str) -> Result<Found, Fail> {
+    let mut text = String::from_str(alloc, "POST /orders/")?;
+    text.push_str(rest)?;
+    Ok(find_message(alloc, text.as_bytes()))
+}
+
+/// What is found of a message that finalizes the order with a number of these digits, and its number.
+fn finalized(alloc: Global, digits: &str) -> Result<(u64, Option<u64>), Fail> {
+    let mut text = String::from_str(alloc, digits)?;
+    text.push_str(FINALIZE_END)?;
+    let found = routed(alloc, &text)?;
+    let order = match &found {
+        Found::Message {
+            command: Command::Finalize { order },
+            ..
+        } => Some(*order),
+        _ => None,
+    };
+    Ok((number_of(&found), order))
+}
+
 /// The bytes of a response with that status line, that size of its body and that body.
 fn response(alloc: Global, status: &str, size: u64, json: &str) -> Result<String, Fail> {
     let mut text = String::from_str(alloc, "HTTP/1.1 ")?;
@@ -293,6 +323,84 @@ fn an_order_is_read_and_what_stands_behind_it_is_left(rt: HostRuntime) -> Result
         assert_eq!(rt; cut(alloc, size), MORE, "of {size} bytes");
     }
     assert_eq!(rt; cut(alloc, 169), MESSAGE);
+    Ok(())
+}
+
+#[test]
+fn an_order_to_finalize_is_read_by_its_number(rt: HostRuntime) -> Result<(), Fail> {
+    let alloc = rt.alloc();
+    let numbers = [
+        ("7", Some(7)),
+        ("0", Some(0)),
+        ("007", Some(7)),
+        ("9999999999999999999", Some(9_999_999_999_999_999_999)),
+        ("0000000000000000012", Some(12)),
+        ("10000000000000000000", None),
+        ("00000000000000000007", None),
+        ("", None),
+        ("+7", None),
+        ("7a", None),
+        ("7/8", None),
+    ];
+    for (digits, want) in numbers {
+        let found = match want {
+            Some(_) => MESSAGE + 1,
+            None => NEVER,
+        };
+        assert_eq!(rt; finalized(alloc, digits)?, (found, want), "{digits}");
+    }
+    let others = [
+        ("12345678901234567890", NEVER),
+        ("1234567890123456789", MORE),
+        ("7/", MORE),
+        ("7/finalise", NEVER),
+        ("7/challenges HTTP/1.1", NEVER),
+        ("7/finalize HTTP/1.0", NEVER),
+        ("7/finalize HTTP/1.1\r\nhost: gate\r\n\r\n", NEVER),
+        ("7 HTTP/1.1", NEVER),
+        (" HTTP/1.1", NEVER),
+    ];
+    for (rest, want) in others {
+        assert_eq!(rt; number_of(&routed(alloc, rest)?), want, "{rest}");
+    }
+    Ok(())
+}
+
+#[test]
+fn messages_are_taken_one_after_another(rt: HostRuntime) -> Result<(), Fail> {
+    let alloc = rt.alloc();
+    let mut bytes = Vec::from_slice(alloc, FINALIZE)?;
+    bytes.extend_from_slice(ORDER)?;
+    let mut source = MemorySource::new(Bytes::from_vec(bytes), Calls::new(alloc));
+    let mut stream = Stream::new(alloc);
+    match stream.take_message(alloc, &mut source) {
+        Taken::Message(Command::Finalize { order }) => assert_eq!(rt; order, 7),
+        _ => assert!(rt; false),
+    }
+    match stream.take_message(alloc, &mut source) {
+        Taken::Message(command) => assert!(rt; is_order(&command)),
+        _ => assert!(rt; false),
+    }
+    match stream.take_message(alloc, &mut source) {
+        Taken::NotBuilt => {}
+        _ => assert!(rt; false),
+    }
+    Ok(())
+}
+
+#[test]
+fn a_front_of_a_message_may_become_one(rt: HostRuntime) -> Result<(), Fail> {
+    let alloc = rt.alloc();
+    let size = FINALIZE.len();
+    for count in 0..size {
+        let front = FINALIZE.get(..count).expect(&rt, "fewer bytes");
+        assert_eq!(rt;
+            number_of(&find_message(alloc, front)),
+            MORE,
+            "of {count} bytes"
+        );
+    }
+    assert_eq!(rt; number_of(&find_message(alloc, FINALIZE)), MESSAGE);
     Ok(())
 }
 

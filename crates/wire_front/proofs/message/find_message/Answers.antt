@@ -1,20 +1,16 @@
-use Rattle.wire_front.proofs.MessageLemmas.{message_found, refused_body, no_message, never_message, some_bytes}
+use Rattle.wire_front.proofs.MessageLemmas.{finalize_found, told, told_so_far, never_an_order}
 use Rattle.wire_front.proofs.message.find_message.Goals as goal
 
-pub returns-in-Ok-Some : goal.returns-in-Ok-Some
-returns-in-Ok-Some c =
-    let read = rw c.in-Ok-Some.field-0-is at c.in-Ok-Some.ensures in
-    message_found c.args.bytes.now c.in-Ok.body.now c.in-Ok.behind.now c.in-Ok-Some.command c.in-Ok.ensures.fits c.in-Ok.ensures.found read.0 read.1
+pub returns-in-Ok : goal.returns-in-Ok
+returns-in-Ok c = finalize_found c.args.bytes.now c.in-Ok.order c.in-Ok.behind.now c.in-Ok.ensures.found
 
-pub returns-in-Ok-None : goal.returns-in-Ok-None
-returns-in-Ok-None c =
-    let none = rw c.in-Ok-None.field-0-is at c.in-Ok-None.ensures in
-    refused_body c.args.bytes.now c.in-Ok.body.now c.in-Ok.behind.now c.in-Ok.ensures.fits c.in-Ok.ensures.found none
+pub returns-in-Never : goal.returns-in-Never
+returns-in-Never c = never_an_order c.args.bytes.now (rw c.in-Err-SoFar.field-0-is at c.in-Err-SoFar.ensures.absent) c.in-Never.ensures
 
-pub returns-in-Err-SoFar : goal.returns-in-Err-SoFar
-returns-in-Err-SoFar c = no_message c.args.bytes.now (rw c.in-Err-SoFar.field-0-is at c.in-Err-SoFar.ensures.absent)
+pub returns-in_default : goal.returns-in_default
+returns-in_default c =
+    told_so_far c.args.bytes.now c.find_order.result (rw c.in-Err-SoFar.field-0-is at c.in-Err-SoFar.ensures.absent) c.in_default.not-Never c.find_order.ensures
 
 pub returns-in-Err-ForGood : goal.returns-in-Err-ForGood
 returns-in-Err-ForGood c =
-    let none = rw c.in-Err-ForGood.field-0-is at c.in-Err-ForGood.ensures.absent in
-    (some_bytes c.args.bytes.now none, never_message c.args.bytes.now none)
+    told c.args.bytes.now c.find_order-in-Err-ForGood.result (rw c.in-Err-ForGood.field-0-is at c.in-Err-ForGood.ensures.absent) c.find_order-in-Err-ForGood.ensures
