@@ -54,8 +54,8 @@ impl Engine {
         reply
     }
 
-    /// What holds of every engine's history; it does nothing.
-    fn has_one_body_each(&self)
+    /// A law of every engine: all bodies that were sent for an order are the same. It does nothing.
+    pub fn has_one_body_each(&self)
         ensures { HasOneBodyEach self.now.history }
     {
         let _ = &self.history;

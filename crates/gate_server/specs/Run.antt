@@ -3,13 +3,15 @@ use Rattle.std.specs.Prelude.{◌≡◌, ◌≢◌, ℕ, ◌≤◌, ◌⊎◌, L
 use Rattle.std.specs.Option.{ForSome, option_map}
 use Rattle.std.specs.Io.KnownBytes.{IsAtEnd}
 use Rattle.plant.specs.Causes.{Rose}
-use Rattle.plant.specs.Plant.{PlantTold}
+use Rattle.plant.specs.Plant.{PlantTold, LeavesSigner}
 use Rattle.plant.specs.Clock.{ClockTold, Reads}
+use Rattle.plant.specs.Entropy.{EntropyTold}
 use Rattle.plant.specs.Stream.{SourceTold, SinkTold}
 use Rattle.journal_core.specs.Journal.{StandsFor, journal_of}
 use Rattle.gate_machine.specs.History.{Legal}
 use Rattle.gate_machine.specs.Answer.{IsInRange, IsOutOfRange}
-use Rattle.gate_machine.specs.Step.{Held}
+use Rattle.gate_machine.specs.Sends.{HasOneBodyEach}
+use Rattle.gate_machine.specs.Step.{Held, IsRecorded, signer_of}
 use Rattle.gate_engine.specs.declared.fault.StartFault.{StartFault}
 use Rattle.gate_engine.specs.declared.fault.StartFault.TheVariants as starts
 use Rattle.gate_engine.specs.Engine.{payloads_of, first_history, StandsForPlant, RefusesStart}
@@ -25,15 +27,16 @@ IsWord words asked.Begin = words ≡ codes "begin" ∷ []
 IsWord words asked.Session = words ≡ codes "session" ∷ []
 IsWord words asked.Other = (words ≢ codes "begin" ∷ []) × (words ≢ codes "session" ∷ [])
 
--- the outside, but for the settings and the random draws
+-- the outside, but for the settings
 pub record Outside : Type 0 where
   pub plant : PlantTold
   pub clock : ClockTold
+  pub entropy : EntropyTold
   pub source : SourceTold
   pub sink : SinkTold
 
-abbrev pub outside_of : PlantTold → ClockTold → SourceTold → SinkTold → Outside
-outside_of plant clock source sink = record { plant = plant; clock = clock; source = source; sink = sink }
+abbrev pub outside_of : PlantTold → ClockTold → EntropyTold → SourceTold → SinkTold → Outside
+outside_of plant clock entropy source sink = record { plant = plant; clock = clock; entropy = entropy; source = source; sink = sink }
 
 -- the settings could not be read, or they aren't empty
 abbrev pub RefusesSettings : SourceTold → SourceTold → Status → Type 0
@@ -54,7 +57,9 @@ pub record Refused (old new : Outside) (status : Status) : Type 0 where
   pub refused : ForSome old.plant.bytes (λ bytes. RefusesStart fault bytes)
   pub cause : fault ≡ starts.Disk → Rose old.plant.disk_faults new.plant.disk_faults
   pub bytes : new.plant.bytes ≡ old.plant.bytes
+  pub signer : LeavesSigner old.plant new.plant
   pub clock : new.clock ≡ old.clock
+  pub entropy : new.entropy ≡ old.entropy
   pub source : new.source ≡ old.source
   pub sink : new.sink ≡ old.sink
 
@@ -68,8 +73,13 @@ pub record Session (old new : Outside) (status : Status) : Type 0 where
   pub mounted : PlantTold
   pub later : old.plant.disk_faults ≤ mounted.disk_faults
   pub after : Held
-  pub ended : Ended status (talk_of before mounted old.clock begun old.source old.sink) after new.plant new.clock new.source new.sink
+  pub signer : LeavesSigner old.plant mounted
+  pub ended : Ended status (talk_of before mounted old.clock old.entropy begun old.source old.sink) after new.plant new.clock new.entropy new.source new.sink
   pub stands : StandsForPlant after new.plant
+  -- each body that the signer was sent has an entry of its own, in order, where it had before
+  pub recorded : IsRecorded (signer_of old.plant) before.history → IsRecorded (signer_of new.plant) after.history
+  -- all bodies that were sent for an order are the same
+  pub one_body : HasOneBodyEach after.history
   pub kept : (Rose old.plant.disk_faults new.plant.disk_faults → ⊥) → StandsFor (payloads_of after.history) new.plant.bytes
 
 abbrev pub HoldsSession : Outside → Outside → Status → Type 0
@@ -116,8 +126,10 @@ BeginsJournal plant plant' clock clock' status =
     ((status ≡ statuses.ClockFault) × Reads clock clock' None × (plant' ≡ plant)) ⊎ BeginsRead plant plant' clock clock' status
 
 pub record RunsBegin (conf conf' : SourceTold) (old new : Outside) (status : Status) : Type 0 where
+  pub entropy : new.entropy ≡ old.entropy
   pub source : new.source ≡ old.source
   pub sink : new.sink ≡ old.sink
+  pub signer : LeavesSigner old.plant new.plant
   pub does : (RefusesSettings conf conf' status × (new.plant ≡ old.plant) × (new.clock ≡ old.clock))
       ⊎ (IsAtEnd conf.left × BeginsJournal old.plant new.plant old.clock new.clock status)
 

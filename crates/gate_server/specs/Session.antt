@@ -1,11 +1,12 @@
 -- A session: messages that are taken, asked and answered, one after another, and how it ends.
-use Rattle.std.specs.Prelude.{◌≡◌, ℕ, ◌≤◌, ◌⊎◌, List, [], ◌++◌, length, codes, sum_by, false, Result, Ok, Err, IfSome}
-use Rattle.std.specs.List.{flat_map, AllByRecursion}
+use Rattle.std.specs.Prelude.{◌≡◌, ℕ, ◌≤◌, ◌⊎◌, List, [], ◌∷◌, ◌++◌, length, codes, sum_by, false, Result, Ok, Err, IfSome}
+use Rattle.std.specs.List.{flat_map}
 use Rattle.std.specs.Io.KnownBytes.{Appends, IsAtEnd}
 use Rattle.gate_base.specs.declared.profile.Role.TheVariants.{Account}
 use Rattle.plant.specs.Causes.{Rose, RoseBy}
 use Rattle.plant.specs.Plant.{PlantTold}
 use Rattle.plant.specs.Clock.{ClockTold}
+use Rattle.plant.specs.Entropy.{EntropyTold}
 use Rattle.plant.specs.Stream.{SourceTold, SinkTold, AppendsFront}
 use Rattle.gate_entries.specs.declared.caller.Caller.{Caller}
 use Rattle.gate_entries.specs.declared.command.Command.{Command}
@@ -13,7 +14,7 @@ use Rattle.gate_entries.specs.declared.reply.Reply.{Reply}
 use Rattle.gate_entries.specs.declared.reply.Reply.TheVariants.{ClockFault, DiskFault}
 use Rattle.gate_machine.specs.Step.{Held, State, Step, Steps}
 use Rattle.gate_engine.specs.Engine.{state_of}
-use Rattle.wire_front.specs.Message.{message_of, IsMessage, HasNoMessage}
+use Rattle.wire_front.specs.Message.{IsMessageOf, HasNoMessage}
 use Rattle.wire_front.specs.Reply.{text_of}
 use Rattle.wire_front.specs.Stream.{StreamState, Passes, most_taken}
 use Rattle.gate_server.specs.declared.status.Status.{Status}
@@ -23,8 +24,16 @@ use Rattle.gate_server.specs.declared.status.Status.TheVariants as statuses
 abbrev pub acme : Caller
 acme = record { id = codes "acme"; role = Account }
 
-abbrev pub messages_of : List Command → List ℕ
-messages_of commands = flat_map message_of commands
+-- messages, one after another
+abbrev pub joined : List (List ℕ) → List ℕ
+joined messages = flat_map (λ message. message) messages
+
+-- each message asks its command
+abbrev pub Ask : List (List ℕ) → List Command → Type 0
+Ask [] [] = Unit {0}
+Ask [] (command ∷ commands) = ⊥
+Ask (message ∷ messages) [] = ⊥
+Ask (message ∷ messages) (command ∷ commands) = IsMessageOf message command × Ask messages commands
 
 abbrev pub texts_of : List Reply → List ℕ
 texts_of replies = flat_map text_of replies
@@ -36,9 +45,9 @@ pub record Talk : Type 0 where
   pub source : SourceTold
   pub sink : SinkTold
 
-abbrev pub talk_of : Held → PlantTold → ClockTold → StreamState → SourceTold → SinkTold → Talk
-talk_of held plant clock stream source sink =
-    record { state = state_of held plant clock; stream = stream; source = source; sink = sink }
+abbrev pub talk_of : Held → PlantTold → ClockTold → EntropyTold → StreamState → SourceTold → SinkTold → Talk
+talk_of held plant clock entropy stream source sink =
+    record { state = state_of held plant clock entropy; stream = stream; source = source; sink = sink }
 
 -- nothing was taken
 abbrev pub begun : StreamState
@@ -46,10 +55,11 @@ begun = record { held = []; taken = 0 }
 
 -- one message was taken, and its command was asked
 pub record Exchanges (old new : Talk) (command : Command) (reply : Reply) : Type 0 where
-  pub message : IsMessage command
+  pub message : List ℕ
+  pub asks : IsMessageOf message command
+  pub some : 1 ≤ length message
+  pub passes : Passes old.stream old.source new.stream new.source message
   pub step : Step old.state acme command reply new.state
-  pub passes : Passes old.stream old.source new.stream new.source (message_of command)
-  pub some : 1 ≤ length (message_of command)
 
 -- its reply was put
 pub record Answers (old new : Talk) : Type 0 where
@@ -107,23 +117,24 @@ tells_clock reply = 0
 
 -- messages that were asked and answered, in order; each count rose by as many as its faults were told, at least
 pub record Talked (old new : Talk) : Type 0 where
+  pub messages : List (List ℕ)
   pub commands : List Command
-  pub each : AllByRecursion IsMessage commands
+  pub ask : Ask messages commands
   pub replies : List Reply
   pub steps : Steps old.state acme commands replies new.state
-  pub passes : Passes old.stream old.source new.stream new.source (messages_of commands)
+  pub passes : Passes old.stream old.source new.stream new.source (joined messages)
   pub puts : Appends old.sink.held new.sink.held (texts_of replies)
   pub read_later : old.source.faults ≤ new.source.faults
   pub put_later : old.sink.faults ≤ new.sink.faults
   pub disk_told : RoseBy (sum_by tells_disk replies) old.state.disk_faults new.state.disk_faults
-  pub clock_told : RoseBy (sum_by tells_clock replies) old.state.clock.faults new.state.clock.faults
+  pub clock_told : RoseBy (sum_by tells_clock replies) old.state.outside.clock.faults new.state.outside.clock.faults
 
 -- the messages, and how they ended; the bytes that are held at the end are no longer told
-pub record Ended (status : Status) (old : Talk) (held : Held) (plant : PlantTold) (clock : ClockTold) (source : SourceTold) (sink : SinkTold) : Type 0 where
+pub record Ended (status : Status) (old : Talk) (held : Held) (plant : PlantTold) (clock : ClockTold) (entropy : EntropyTold) (source : SourceTold) (sink : SinkTold) : Type 0 where
   pub last : Talk
   pub talked : Talked old last
   pub stream : StreamState
-  pub ends : Ends status last (talk_of held plant clock stream source sink)
+  pub ends : Ends status last (talk_of held plant clock entropy stream source sink)
 
 -- how a reply is put: whole, or a front of it
 abbrev pub PutsReply : Result (Unit {0}) Status → SinkTold → SinkTold → List ℕ → Type 0

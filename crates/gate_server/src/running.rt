@@ -41,11 +41,8 @@ pub fn run<F: Source, P: Plant, C: Clock, E: Entropy, S: Source, K: Sink>(
 ) -> Status
     // What is left of the outside, and the status, are those of the words' meaning.
     ensures runs { (word : WordValue) → IsWord (map string_bytes words.now) word → Runs word (F.told conf.old) (F.told conf.new)
-        (outside_of (P.told plant.old) (C.told clock.old) (S.told source.old) (K.told sink.old))
-        (outside_of (P.told plant.new) (C.told clock.new) (S.told source.new) (K.told sink.new)) result }
-    // The signer is sent nothing.
-    ensures signer { LeavesSigner (P.told plant.old) (P.told plant.new) }
-    ensures entropy { E.told entropy.new ≡ E.told entropy.old }
+        (outside_of (P.told plant.old) (C.told clock.old) (E.told entropy.old) (S.told source.old) (K.told sink.old))
+        (outside_of (P.told plant.new) (C.told clock.new) (E.told entropy.new) (S.told source.new) (K.told sink.new)) result }
 {
     match read_words(words) {
         Word::Begin => run_begin(alloc, conf, plant, clock),
@@ -143,10 +140,8 @@ fn run_session<F: Source, P: Plant, C: Clock, E: Entropy, S: Source, K: Sink>(
     sink: &mut K,
 ) -> Status
     ensures runs { RunsSession (F.told conf.old) (F.told conf.new)
-        (outside_of (P.told plant.old) (C.told clock.old) (S.told source.old) (K.told sink.old))
-        (outside_of (P.told plant.new) (C.told clock.new) (S.told source.new) (K.told sink.new)) result }
-    ensures signer { LeavesSigner (P.told plant.old) (P.told plant.new) }
-    ensures entropy { E.told entropy.new ≡ E.told entropy.old }
+        (outside_of (P.told plant.old) (C.told clock.old) (E.told entropy.old) (S.told source.old) (K.told sink.old))
+        (outside_of (P.told plant.new) (C.told clock.new) (E.told entropy.new) (S.told source.new) (K.told sink.new)) result }
 {
     match read_settings(conf) {
         Settings::Empty => hold_session(alloc, plant, clock, entropy, source, sink),
@@ -165,10 +160,8 @@ fn hold_session<P: Plant, C: Clock, E: Entropy, S: Source, K: Sink>(
     sink: &mut K,
 ) -> Status
     ensures holds { HoldsSession
-        (outside_of (P.told plant.old) (C.told clock.old) (S.told source.old) (K.told sink.old))
-        (outside_of (P.told plant.new) (C.told clock.new) (S.told source.new) (K.told sink.new)) result }
-    ensures signer { LeavesSigner (P.told plant.old) (P.told plant.new) }
-    ensures entropy { E.told entropy.new ≡ E.told entropy.old }
+        (outside_of (P.told plant.old) (C.told clock.old) (E.told entropy.old) (S.told source.old) (K.told sink.old))
+        (outside_of (P.told plant.new) (C.told clock.new) (E.told entropy.new) (S.told source.new) (K.told sink.new)) result }
 {
     match Engine::start(alloc, plant, clock, &[]) {
         Ok(mut engine) => answer_messages(alloc, &mut engine, plant, clock, entropy, source, sink),

@@ -1,6 +1,7 @@
 //! A session: one message after another is asked and answered.
 ghost use Rattle.std.specs.Prelude.{◌≡◌, ◌≤◌, IfOk};
-ghost use Rattle.plant.specs.Plant.{LeavesSigner};
+ghost use Rattle.gate_machine.specs.Sends.{HasOneBodyEach};
+ghost use Rattle.gate_machine.specs.Step.{IsRecorded, signer_of};
 ghost use Rattle.gate_engine.specs.Engine.{StandsForPlant};
 ghost use Rattle.wire_front.specs.Stream.{most_taken};
 ghost use Rattle.wire_front.specs.Reply.{text_of};
@@ -40,15 +41,16 @@ pub fn answer_messages<P: Plant, C: Clock, E: Entropy, S: Source, K: Sink>(
 ) -> Status
     requires { StandsForPlant engine.old (P.told plant.old) }
     ensures ended { Ended result
-        (talk_of engine.old (P.told plant.old) (C.told clock.old) begun (S.told source.old) (K.told sink.old))
-        engine.new (P.told plant.new) (C.told clock.new) (S.told source.new) (K.told sink.new) }
+        (talk_of engine.old (P.told plant.old) (C.told clock.old) (E.told entropy.old) begun (S.told source.old) (K.told sink.old))
+        engine.new (P.told plant.new) (C.told clock.new) (E.told entropy.new) (S.told source.new) (K.told sink.new) }
     ensures stands { StandsForPlant engine.new (P.told plant.new) }
-    ensures signer { LeavesSigner (P.told plant.old) (P.told plant.new) }
-    ensures entropy { E.told entropy.new ≡ E.told entropy.old }
+    ensures recorded { IsRecorded (signer_of (P.told plant.old)) engine.old.history → IsRecorded (signer_of (P.told plant.new)) engine.new.history }
+    ensures one_body { HasOneBodyEach engine.new.history }
 {
     one_passing();
     what_follows_a_reading();
     let Ok(caller) = account(alloc) else {
+        engine.has_one_body_each();
         return Status::NoMemory;
     };
     let mut stream = Stream::new(alloc);
@@ -65,13 +67,13 @@ pub fn answer_messages<P: Plant, C: Clock, E: Entropy, S: Source, K: Sink>(
             sink,
         );
         if let Err(status) = turned {
+            engine.has_one_body_each();
             return status;
         }
     }
 }
 
 /// Answers the next message, or tells how the session ends.
-#[tactic(auto, using(crate::proofs::Steps::message_writes))]
 fn turn<P: Plant, C: Clock, E: Entropy, S: Source, K: Sink>(
     alloc: Global,
     engine: &mut Engine,
@@ -86,14 +88,13 @@ fn turn<P: Plant, C: Clock, E: Entropy, S: Source, K: Sink>(
     requires stands { StandsForPlant engine.old (P.told plant.old) }
     requires caller { caller.now ≡ acme }
     ensures turns { Turns result
-        (talk_of engine.old (P.told plant.old) (C.told clock.old) stream.old (S.told source.old) (K.told sink.old))
-        (talk_of engine.new (P.told plant.new) (C.told clock.new) stream.new (S.told source.new) (K.told sink.new)) }
+        (talk_of engine.old (P.told plant.old) (C.told clock.old) (E.told entropy.old) stream.old (S.told source.old) (K.told sink.old))
+        (talk_of engine.new (P.told plant.new) (C.told clock.new) (E.told entropy.new) stream.new (S.told source.new) (K.told sink.new)) }
     ensures fits { stream.new.taken ≤ most_taken }
     ensures read_later { (S.told source.old).faults ≤ (S.told source.new).faults }
     ensures put_later { (K.told sink.old).faults ≤ (K.told sink.new).faults }
     ensures stands { StandsForPlant engine.new (P.told plant.new) }
-    ensures signer { LeavesSigner (P.told plant.old) (P.told plant.new) }
-    ensures entropy { E.told entropy.new ≡ E.told entropy.old }
+    ensures recorded { IsRecorded (signer_of (P.told plant.old)) engine.old.history → IsRecorded (signer_of (P.told plant.new)) engine.new.history }
 {
     let command = match stream.take_message(alloc, source) {
         Taken::Message(command) => command,

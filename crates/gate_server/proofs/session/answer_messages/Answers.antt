@@ -6,7 +6,7 @@ use Rattle.gate_server.proofs.session.answer_messages.Goals as goal
 
 pub returns-in_default-clause-ended : goal.returns-in_default-clause-ended
 returns-in_default-clause-ended g c =
-    let talk = talk_of c.args.engine.now (g.P.Plant.told c.args.plant.now) (g.C.Clock.told c.args.clock.now) begun (g.S.Source.told c.args.source.now)
+    let talk = talk_of c.args.engine.now (g.P.Plant.told c.args.plant.now) (g.C.Clock.told c.args.clock.now) (g.E.Entropy.told c.args.entropy.now) begun (g.S.Source.told c.args.source.now)
     (g.K.Sink.told c.args.sink.now) in
     record {
       last = talk;
@@ -18,15 +18,14 @@ returns-in_default-clause-ended g c =
 pub loop-status-init : goal.loop-status-init
 loop-status-init g c =
     let talk : (stream : StreamState) → _ = λ (stream : StreamState). talk_of c.args.engine.now (g.P.Plant.told c.args.plant.now) (g.C.Clock.told c.args.clock.now)
-    stream (g.S.Source.told c.args.source.now) (g.K.Sink.told c.args.sink.now) in
+    (g.E.Entropy.told c.args.entropy.now) stream (g.S.Source.told c.args.source.now) (g.K.Sink.told c.args.sink.now) in
     record {
       caller = c.in-Ok.ensures;
       talked = subst (λ (stream : StreamState). Talked (talk begun) (talk stream)) (sym c.new-stream.ensures)
           (talked_none c.one_passing.ensures.none c.one_passing.ensures.more c.what_follows_a_reading.ensures (talk begun));
       fits = omega (arith, ap (λ (s : StreamState). s.taken) c.new-stream.ensures);
       stands = c.requires;
-      signer = record { sent = refl; answers = refl; signer_faults = refl };
-      entropy = refl;
+      recorded = λ recorded. recorded;
     }
 
 pub loop-status-preserved : goal.loop-status-preserved
@@ -38,10 +37,5 @@ loop-status-preserved g c =
       talked = talked_more c.one_passing.ensures.none c.one_passing.ensures.more c.what_follows_a_reading.ensures _ _ _ before.talked c.in_default-turned.ensures.turns now.read_later now.put_later;
       fits = now.fits;
       stands = now.stands;
-      signer = record {
-        sent = now.signer.sent ∙ before.signer.sent;
-        answers = now.signer.answers ∙ before.signer.answers;
-        signer_faults = now.signer.signer_faults ∙ before.signer.signer_faults;
-      };
-      entropy = now.entropy ∙ before.entropy;
+      recorded = λ recorded. now.recorded (before.recorded recorded);
     }

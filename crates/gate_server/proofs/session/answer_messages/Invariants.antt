@@ -1,5 +1,5 @@
 use Rattle.std.proofs.Common.{◌≡◌, ◌+◌, ◌-◌, ◌≤◌, length}
-use Rattle.plant.specs.Plant.{LeavesSigner}
+use Rattle.gate_machine.specs.Step.{IsRecorded, signer_of}
 use Rattle.gate_engine.specs.Engine.{StandsForPlant}
 use Rattle.wire_front.specs.Stream.{most_taken}
 use Rattle.gate_server.specs.Session.{acme, talk_of, begun, Talked}
@@ -8,12 +8,11 @@ use Rattle.gate_server.proofs.session.answer_messages.Given as goal
 abbrev pub invariant-loop-status : goal.invariant-loop-status
 invariant-loop-status g l = record {
   caller : l.caller ≡ acme;
-  talked : Talked (talk_of l.fn.engine (g.P.Plant.told l.fn.plant) (g.C.Clock.told l.fn.clock) begun (g.S.Source.told l.fn.source) (g.K.Sink.told l.fn.sink))
-      (talk_of l.engine (g.P.Plant.told l.plant) (g.C.Clock.told l.clock) l.stream (g.S.Source.told l.source) (g.K.Sink.told l.sink));
+  talked : Talked (talk_of l.fn.engine (g.P.Plant.told l.fn.plant) (g.C.Clock.told l.fn.clock) (g.E.Entropy.told l.fn.entropy) begun (g.S.Source.told l.fn.source) (g.K.Sink.told l.fn.sink))
+      (talk_of l.engine (g.P.Plant.told l.plant) (g.C.Clock.told l.clock) (g.E.Entropy.told l.entropy) l.stream (g.S.Source.told l.source) (g.K.Sink.told l.sink));
   fits : l.stream.taken ≤ most_taken;
   stands : StandsForPlant l.engine (g.P.Plant.told l.plant);
-  signer : LeavesSigner (g.P.Plant.told l.fn.plant) (g.P.Plant.told l.plant);
-  entropy : g.E.Entropy.told l.entropy ≡ g.E.Entropy.told l.fn.entropy;
+  recorded : IsRecorded (signer_of (g.P.Plant.told l.fn.plant)) l.fn.engine.history → IsRecorded (signer_of (g.P.Plant.told l.plant)) l.engine.history;
 }
 
 abbrev pub decreases-loop-status : goal.decreases-loop-status
