@@ -34,8 +34,7 @@ class SigningDevice:
         return self
 
     def __exit__(self, *_):
-        # This wakes a thread that waits for a connection, which closing alone doesn't.
-        self.listener.shutdown(socket.SHUT_RDWR)
+        self.listener.shutdown(socket.SHUT_RDWR)  # wakes a thread that waits for a connection; closing alone doesn't
         self.thread.join()
         self.listener.close()
 
@@ -60,8 +59,8 @@ class SigningDevice:
             body = receive(stream, int.from_bytes(receive(stream, 4), "big"))
         self.bodies.append(body)
         if len(self.bodies) > self.drops:
-            signature = self.signature(body) if self.size is None else bytes(self.size)
-            connection.sendall(len(signature).to_bytes(2, "big") + signature)
+            reply = self.signature(body) if self.size is None else bytes(self.size)
+            connection.sendall(len(reply).to_bytes(2, "big") + reply)
 
 
 def main():
