@@ -41,11 +41,19 @@ fn run_words(rt: &HostRuntime) -> Status {
     }
 }
 
-/// `standin:HEX`, with 2 to 128 hexadecimal digits, an even number.
+/// `standin:HEX` or `loopback:PORT`.
 fn read_signer(rt: &HostRuntime, text: &str) -> Result<Signer, Status> {
-    let Some(digits) = text.strip_prefix("standin:") else {
-        return Err(Status::Usage);
-    };
+    if let Some(digits) = text.strip_prefix("standin:") {
+        return read_secret(rt, digits);
+    }
+    match text.strip_prefix("loopback:").and_then(read_port) {
+        Some(port) => Ok(Signer::Loopback { port }),
+        None => Err(Status::Usage),
+    }
+}
+
+/// A secret in 2 to 128 hexadecimal digits, an even number.
+fn read_secret(rt: &HostRuntime, digits: &str) -> Result<Signer, Status> {
     if digits.is_empty() || digits.len() > 128 {
         return Err(Status::Usage);
     }
@@ -53,6 +61,14 @@ fn read_signer(rt: &HostRuntime, text: &str) -> Result<Signer, Status> {
         Ok(secret) => Ok(Signer::StandIn(Bytes::from_vec(secret))),
         Err(hex::FromHexError::OutOfMemory) => Err(Status::NoMemory),
         Err(_) => Err(Status::Usage),
+    }
+}
+
+/// A port from 1 to 65,535 in decimal, without leading zeros.
+fn read_port(digits: &str) -> Option<u16> {
+    match digits.as_bytes() {
+        [b'1'..=b'9', ..] => digits.parse::<u16>().ok(),
+        _ => None,
     }
 }
 
@@ -71,7 +87,7 @@ fn open_and_run(
     let Ok(conf) = File::open(rt, conf) else {
         return Status::ReadFault { settings: true };
     };
-    let mut plant = FilePlant::new(journal, signer);
+    let mut plant = FilePlant::new(rt, journal, signer);
     let mut conf = StdSource::new(conf);
     let mut source = StdSource::new(rt.stdin());
     let mut sink = StdSink::new(rt.stdout());

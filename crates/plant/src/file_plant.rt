@@ -4,10 +4,12 @@ ghost use Rattle.plant.specs.Causes.{HasCause};
 
 use crate::device::Plant;
 use crate::fault::{DiskFault, SignerFault};
+use crate::loopback::sign_at;
 use crate::memory_plant::put_stand_in;
 use gate_base::Bytes;
 use std::fs::{File, OpenFile};
 use std::io;
+use std::net::Net;
 use std::os::unix::fs::FileExt;
 
 /// What signs.
@@ -15,20 +17,36 @@ use std::os::unix::fs::FileExt;
 pub enum Signer {
     /// The stand-in with its secret: SHA-256 of the secret and the body. It is no signature in earnest.
     StandIn(Bytes),
+    /// A device at this port of 127.0.0.1. It takes four bytes of length, high byte first, and the body,
+    /// and answers two bytes of length and the signature, of 1 to 1,024 bytes.
+    Loopback { port: u16 },
 }
 
 /// A file, and what signs. It tells nothing of what the file holds.
-#[derive(Drop)]
-pub struct FilePlant {
+pub struct FilePlant<'a, R: Net> {
+    rt: &'a R,
     file: File,
     signer: Signer,
     disk_faults: u64,
     signer_faults: u64,
 }
 
-impl FilePlant {
-    pub fn new(file: File, signer: Signer) -> FilePlant {
+impl<R: Net> Drop for FilePlant<'_, R> {
+    fn drop(self) {
+        let FilePlant {
+            rt: _,
+            file: _file,
+            signer: _signer,
+            disk_faults: _,
+            signer_faults: _,
+        } = self;
+    }
+}
+
+impl<'a, R: Net> FilePlant<'a, R> {
+    pub fn new(rt: &'a R, file: File, signer: Signer) -> FilePlant<'a, R> {
         FilePlant {
+            rt,
             file,
             signer,
             disk_faults: 0,
@@ -50,7 +68,7 @@ fn counted<T: Drop>(outcome: io::Result<T>, faults: &mut u64) -> Result<T, DiskF
     }
 }
 
-impl Plant for FilePlant {
+impl<R: Net> Plant for FilePlant<'_, R> {
     ghost use Rattle.std.specs.Prelude.{None};
 
     ghost told = { λ p. record {
@@ -79,8 +97,16 @@ impl Plant for FilePlant {
     }
 
     fn sign(&mut self, body: &[u8], out: &mut [u8]) -> Result<usize, SignerFault> {
-        match &self.signer {
+        let signed = match &self.signer {
             Signer::StandIn(secret) => Ok(put_stand_in(secret, body, out)),
+            Signer::Loopback { port } => sign_at(self.rt, *port, body, out),
+        };
+        match signed {
+            Ok(count) => Ok(count),
+            Err(SignerFault) => {
+                self.signer_faults = self.signer_faults.saturating_add(1);
+                Err(SignerFault)
+            }
         }
     }
 }

@@ -8,6 +8,7 @@ mod fault;
 mod file_plant;
 mod list_clock;
 mod list_entropy;
+mod loopback;
 mod memory_plant;
 mod memory_sink;
 mod memory_source;

@@ -3,8 +3,13 @@ ghost use Rattle.std.specs.Prelude.{◌≡◌, IfOk};
 use super::*;
 use gate_base::{Bytes, Sequence, Sixteen};
 use std::alloc::Global;
-use std::fs::OpenOptions;
+use std::fs::{File, OpenOptions};
+use std::io::{Read, Write};
+use std::net::{Net, TcpListener};
+use std::process::Abort;
 use std::test::Fail as TestFail;
+use std::thread::Threads;
+use std::{io, thread};
 
 fn bytes(alloc: Global, text: &[u8]) -> Result<Bytes, TestFail>
     ensures { IfOk result (λ b. b ≡ text.now) }
@@ -103,12 +108,19 @@ fn the_system_answers(rt: HostRuntime) {
     assert_ne!(rt; entropy.draw16(), entropy.draw16());
 }
 
+fn journal(rt: &HostRuntime) -> io::Result<File> {
+    let mut options = OpenOptions::new();
+    options
+        .read(true)
+        .write(true)
+        .create(true)
+        .open(rt, "journal")
+}
+
 #[test]
 fn a_file_holds_what_was_written(rt: HostRuntime) -> Result<(), TestFail> {
-    let mut options = OpenOptions::new();
-    let options = options.read(true).write(true).create(true);
-    let file = options.open(&rt, "journal")?;
-    let mut plant = FilePlant::new(file, Signer::StandIn(bytes(rt.alloc(), b"ab")?));
+    let file = journal(&rt)?;
+    let mut plant = FilePlant::new(&rt, file, Signer::StandIn(bytes(rt.alloc(), b"ab")?));
     assert_eq!(rt; plant.write_at(0, b"abc"), Ok(()));
     assert_eq!(rt; plant.write_at(1, b"xyz"), Ok(()));
     assert_eq!(rt; plant.sync(), Ok(()));
@@ -121,5 +133,55 @@ fn a_file_holds_what_was_written(rt: HostRuntime) -> Result<(), TestFail> {
     assert_eq!(rt; plant.sign(b"c", &mut out), Ok(32));
     // SHA-256 of "abc", as FIPS 180-4 gives it
     assert_eq!(rt; &out[..4], [0xba, 0x78, 0x16, 0xbf].as_slice());
+    Ok(())
+}
+
+/// Takes a body of three bytes from the next connection, gives the reply, and closes; the body with its length.
+fn answer_next(listener: &TcpListener, reply: &[u8]) -> io::Result<[u8; 7]> {
+    let (mut stream, _) = listener.accept()?;
+    let mut request = [0; 7];
+    stream.read_exact(&mut request)?;
+    stream.write_all(reply)?;
+    Ok(request)
+}
+
+/// Has a body signed while the device gives this reply.
+fn signs<R: Abort + Threads, N: Net + Sync>(
+    rt: &R,
+    listener: &TcpListener,
+    plant: &mut FilePlant<'_, N>,
+    reply: &[u8],
+    out: &mut [u8; SIGNATURE_ROOM],
+) -> Result<Result<usize, SignerFault>, TestFail> {
+    let (asked, signed) = thread::join(
+        rt,
+        || answer_next(listener, reply),
+        || plant.sign(b"abc", out),
+    );
+    assert_eq!(rt; asked?, *b"\x00\x00\x00\x03abc");
+    Ok(signed)
+}
+
+#[test]
+fn a_device_signs_or_fails(rt: HostRuntime) -> Result<(), TestFail> {
+    let listener = TcpListener::bind(&rt, "127.0.0.1:0")?;
+    let port = listener.local_addr()?.port();
+    let mut plant = FilePlant::new(&rt, journal(&rt)?, Signer::Loopback { port });
+    let mut out = [0; SIGNATURE_ROOM];
+    for (reply, want) in [
+        (b"\x00\x02xyz".as_slice(), Ok(2)),
+        (b"", Err(SignerFault)),
+        (b"\x00", Err(SignerFault)),
+        (b"\x00\x00x", Err(SignerFault)),
+        (b"\x00\x02x", Err(SignerFault)),
+        (b"\x04\x01x", Err(SignerFault)),
+        (b"\x00\x03abc", Ok(3)),
+    ] {
+        let signed = signs(&rt, &listener, &mut plant, reply, &mut out)?;
+        assert_eq!(rt; signed, want, "{reply:?}");
+    }
+    assert_eq!(rt; &out[..3], b"abc".as_slice());
+    drop(listener);
+    assert_eq!(rt; plant.sign(b"abc", &mut out), Err(SignerFault));
     Ok(())
 }
