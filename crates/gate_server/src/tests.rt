@@ -1,7 +1,7 @@
 use crate::running::run;
 use crate::status::Status;
-use gate_base::{Bytes, Sequence};
-use plant::{ListClock, ListEntropy, MemoryPlant, MemorySink, MemorySource};
+use gate_base::{Bytes, Sequence, Sixteen};
+use plant::{Fail, ListClock, ListEntropy, MemoryPlant, MemorySink, MemorySource};
 use std::alloc::Global;
 use std::process::Abort;
 
@@ -43,6 +43,20 @@ const KEY_REUSED: &[u8] =
     b"HTTP/1.1 409 Conflict\r\ncontent-type: application/json\r\ncontent-length: 31\r\n\r\n\
     {\"kept\":2,\"reply\":\"key_reused\"}";
 
+/// Has the order finalized.
+const FINALIZE: &[u8] =
+    b"POST /orders/2/finalize HTTP/1.1\r\nhost: gate\r\nx-gate-key: acme-token\r\n\r\n";
+
+const SIGNER_FAULT: &[u8] =
+    b"HTTP/1.1 503 Service Unavailable\r\ncontent-type: application/json\r\ncontent-length: 24\r\n\r\n\
+    {\"reply\":\"signer_fault\"}";
+
+/// The certificate of 84 bytes: a serial number of 40 and fifteen zeros, the name, and SHA-256 of the body under an empty secret.
+const ISSUED: &[u8] =
+    b"HTTP/1.1 200 OK\r\ncontent-type: application/json\r\ncontent-length: 201\r\n\r\n\
+    {\"certificate\":\"MFIwIQIQQAAAAAAAAAAAAAAAAAAAADANggtleGFtcGxlLmNvbTAKBggqhkjOPQQDAgMhALd\
+    XRyESI0vlf1q3Mne7fULZJX84tFTvmDisCE35NcCm\",\"order\":2,\"reply\":\"issued\",\"serial\":\"40000000000000000000000000000000\"}";
+
 fn empty_plant(alloc: Global) -> MemoryPlant {
     MemoryPlant::new(
         alloc,
@@ -76,11 +90,13 @@ fn status_of(
     input: &[u8],
     sink: &mut MemorySink,
 ) -> Status {
+    // Sixteen zeros, once.
+    let draws = Sequence::from_slice(alloc, &[Some(Sixteen([0; 16]))]).expect(rt, "memory");
     let words = word_alone(rt, alloc, word);
     let mut conf = source(rt, alloc, b"");
     let mut input = source(rt, alloc, input);
     let mut clock = clock(rt, alloc);
-    let mut entropy = ListEntropy::new(Sequence::new(alloc));
+    let mut entropy = ListEntropy::new(draws);
     run(
         alloc,
         words.as_slice(),
@@ -138,9 +154,15 @@ fn holds(rt: &impl Abort, plant: &MemoryPlant, behind: &[u8]) {
 }
 
 fn twice(rt: &impl Abort, alloc: Global, bytes: &[u8]) -> Vec<u8> {
-    let mut both = bytes.to_vec(alloc).expect(rt, "memory");
-    both.extend_from_slice(bytes).expect(rt, "memory");
-    both
+    joined(rt, alloc, &[bytes, bytes])
+}
+
+fn joined(rt: &impl Abort, alloc: Global, pieces: &[&[u8]]) -> Vec<u8> {
+    let mut all = Vec::new(alloc);
+    for piece in pieces {
+        all.extend_from_slice(piece).expect(rt, "memory");
+    }
+    all
 }
 
 #[test]
@@ -192,4 +214,20 @@ fn a_reused_key_is_told(rt: HostRuntime) {
         KEY_REUSED,
     );
     holds(&rt, &plant, ORDERED);
+}
+
+#[test]
+fn a_lost_answer_sends_the_same_bytes_again(rt: HostRuntime) {
+    let alloc = rt.alloc();
+    let mut fails = Sequence::new(alloc);
+    fails.push((12, Fail::ReplyLost)).expect(&rt, "memory");
+    let mut plant = MemoryPlant::new(alloc, Bytes::new(alloc), Bytes::new(alloc), fails);
+    succeeds(&rt, alloc, &mut plant, "begin", b"", b"");
+    let input = joined(&rt, alloc, &[ORDER, FINALIZE, FINALIZE]);
+    let output = joined(&rt, alloc, &[PLACED, SIGNER_FAULT, ISSUED]);
+    succeeds(&rt, alloc, &mut plant, "session", &input, &output);
+    // The certificate is told again, and the signer isn't called.
+    succeeds(&rt, alloc, &mut plant, "session", FINALIZE, ISSUED);
+    assert_eq!(rt; plant.sent().len(), 2);
+    assert!(rt; plant.sent().get(0) == plant.sent().get(1));
 }
