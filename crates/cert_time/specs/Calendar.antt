@@ -1,6 +1,6 @@
 -- Moments, in seconds since 1970-01-01T00:00:00 UTC, as dates of the Gregorian calendar with a time of day. Each day has
 -- 86,400 seconds: there are no leap seconds.
-use Rattle.std.specs.Prelude.{ℕ, zero, suc, ◌+◌, ◌*◌, ◌/◌, ◌%◌, ◌<◌, ◌≤◌, nat_lt, if◌then◌else◌, ℤ, pos, ◌+ℤ◌, ◌*ℤ◌}
+use Rattle.std.specs.Prelude.{ℕ, zero, suc, ◌+◌, ◌*◌, ◌/◌, ◌%◌, ◌<◌, nat_lt, if◌then◌else◌, ℤ, pos, ◌+ℤ◌, ◌*ℤ◌}
 use Rattle.jiff_core.specs.Calendar.{days_in_month, days_from_civil, IsCivilDate}
 use Rattle.cert_time.specs.declared.civil.Civil.{Civil}
 

@@ -1,5 +1,5 @@
 -- What a Time's text says: the reader in steps, each of which gives nothing where the text has another form.
-use Rattle.std.specs.Prelude.{ℕ, ◌+◌, ◌-◌, ◌*◌, ◌&&◌, ◌==◌, nat_lt, if◌then◌else◌, List, [], ◌∷◌, Option, Some, None, option_and_then}
+use Rattle.std.specs.Prelude.{ℕ, Bool, false, ◌+◌, ◌-◌, ◌*◌, ◌&&◌, ◌==◌, nat_lt, if◌then◌else◌, List, [], ◌∷◌, Option, Some, None, option_and_then}
 use Rattle.std.specs.Char.{is_ascii_digit}
 use Rattle.cert_time.specs.declared.civil.Civil.{Civil}
 
@@ -11,15 +11,15 @@ number_at (a ∷ b ∷ rest) =
     if is_ascii_digit a && is_ascii_digit b then Some (10 * (a - 48) + (b - 48), rest) else None
 
 -- all that is left is the Z
-abbrev pub at_zone : {A : Type 0} → List ℕ → A → Option A
-at_zone [] x = None
-at_zone (z ∷ []) x = if z == 90 then Some x else None
-at_zone (z ∷ b ∷ rest) x = None
+abbrev pub is_zone : List ℕ → Bool
+is_zone [] = false
+is_zone (z ∷ []) = z == 90
+is_zone (z ∷ b ∷ rest) = false
 
 unfoldable pub civil_in : ℕ → List ℕ → Option Civil
 civil_in year bytes =
     option_and_then (λ month. option_and_then (λ day. option_and_then (λ hour. option_and_then (λ minute. option_and_then (λ second.
-    at_zone second.1 (record { year = year; month = month.0; day = day.0; hour = hour.0; minute = minute.0; second = second.0 }))
+    if is_zone second.1 then Some (record { year = year; month = month.0; day = day.0; hour = hour.0; minute = minute.0; second = second.0 }) else None)
     (number_at minute.1)) (number_at hour.1)) (number_at day.1)) (number_at month.1)) (number_at bytes)
 
 -- a year of two digits: 50 to 99 are those of the last century (RFC 5280, section 4.1.2.5.1)

@@ -39,11 +39,16 @@ abbrev pub text_of : Time → List ℕ
 text_of (Utc text) = text
 text_of (Generalized text) = text
 
--- the tag and the content are those of the Time so many seconds after 1970; its year is 1950 or later
-pub record IsTimeText (tag : ℕ) (content : List ℕ) (seconds : ℤ) : Type 0 where
-  pub civil : Civil
-  pub real : IsReal civil
+-- The tag and the content are those of this date and time of day. Its year is 1950 or later, since a UTCTime says its
+-- last two digits alone.
+pub record IsTextOf (tag : ℕ) (content : List ℕ) (civil : Civil) : Type 0 where
   pub years : 1950 ≤ civil.year
   pub tagged : tag ≡ tag_of (time_with civil)
   pub spelled : content ≡ text_of (time_with civil)
+
+-- the tag and the content are those of the Time so many seconds after 1970, or before it
+pub record IsTimeText (tag : ℕ) (content : List ℕ) (seconds : ℤ) : Type 0 where
+  pub civil : Civil
+  pub real : IsReal civil
+  pub written : IsTextOf tag content civil
   pub passed : seconds ≡ seconds_of civil

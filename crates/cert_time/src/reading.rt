@@ -1,5 +1,7 @@
-ghost use Rattle.std.specs.Prelude.{◌≡◌, ◌↔◌, ℤ, Some, option_map};
-ghost use Rattle.cert_time.specs.Time.{IsTimeText};
+ghost use Rattle.std.specs.Prelude.{◌≡◌, ◌↔◌, ℤ, Some, option_map, IfSome};
+ghost use Rattle.cert_time.specs.declared.civil.Civil.{Civil as CivilValue};
+ghost use Rattle.cert_time.specs.Calendar.{IsReal};
+ghost use Rattle.cert_time.specs.Time.{IsTextOf, IsTimeText};
 ghost use Rattle.cert_time.specs.Reading as spec;
 
 use crate::civil::{Civil, seconds_of};
@@ -17,6 +19,13 @@ fn number_at(bytes: &[u8]) -> Option<(u8, &[u8])>
     }
 }
 
+/// The `Z` that ends the text.
+fn is_zone(bytes: &[u8]) -> bool
+    ensures { result ≡ spec.is_zone bytes.now }
+{
+    matches!(bytes, [b'Z'])
+}
+
 /// What stands behind a year: month, day, hour, minute, second and `Z`.
 #[tactic(auto, unfolding(crate::specs::Reading::civil_in))]
 fn civil_in(year: u16, bytes: &[u8]) -> Option<Civil>
@@ -27,17 +36,17 @@ fn civil_in(year: u16, bytes: &[u8]) -> Option<Civil>
     let (hour, bytes) = number_at(bytes)?;
     let (minute, bytes) = number_at(bytes)?;
     let (second, bytes) = number_at(bytes)?;
-    match bytes {
-        [b'Z'] => Some(Civil {
-            year,
-            month,
-            day,
-            hour,
-            minute,
-            second,
-        }),
-        _ => None,
+    if !is_zone(bytes) {
+        return None;
     }
+    Some(Civil {
+        year,
+        month,
+        day,
+        hour,
+        minute,
+        second,
+    })
 }
 
 /// What a UTCTime says. Its years from 50 on are those of the last century.
@@ -62,16 +71,24 @@ fn generalized_civil(content: &[u8]) -> Option<Civil>
     civil_in(year, bytes)
 }
 
+/// The date and the time of day that a Time says.
+#[tactic(auto, using(crate::proofs::Texts::utc_found, crate::proofs::Texts::utc_again, crate::proofs::Texts::generalized_found, crate::proofs::Texts::generalized_again, crate::proofs::Texts::no_other_tag))]
+fn civil_read(tag: u8, content: &[u8]) -> Option<Civil>
+    ensures found { IfSome result (IsTextOf tag content.now) }
+    ensures again { (civil : CivilValue) → IsReal civil → IsTextOf tag content.now civil → result ≡ Some civil }
+{
+    match tag {
+        UTC_TIME => utc_civil(content),
+        GENERALIZED_TIME => generalized_civil(content),
+        _ => None,
+    }
+}
+
 /// The seconds since 1970 of a Time with this tag and content, negative before it; none of what is no such Time:
 /// a UTCTime `YYMMDDHHMMSSZ` through 2049, or a GeneralizedTime `YYYYMMDDHHMMSSZ` from 2050 on
 /// (RFC 5280, section 4.1.2.5), of a date that the calendar has and a time with no leap second.
 pub fn read_time(tag: u8, content: &[u8]) -> Option<i64>
     ensures { (seconds : ℤ) → (result ≡ Some seconds) ↔ IsTimeText tag content.now seconds }
 {
-    let civil = match tag {
-        UTC_TIME => utc_civil(content)?,
-        GENERALIZED_TIME => generalized_civil(content)?,
-        _ => return None,
-    };
-    seconds_of(&civil)
+    seconds_of(&civil_read(tag, content)?)
 }

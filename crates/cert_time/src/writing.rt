@@ -1,6 +1,7 @@
 ghost use Rattle.std.specs.Prelude.{◌≡◌, ◌<◌, ◌≤◌, [], ◌∷◌};
 ghost use Rattle.cert_time.specs.Time as spec;
-ghost use Rattle.cert_time.specs.Time.{two_digits, IsTimeText};
+ghost use Rattle.cert_time.specs.Time.{two_digits};
+ghost use Rattle.cert_time.specs.Calendar.{IsReal};
 
 use crate::civil::{Civil, civil_of};
 use crate::time::Time;
@@ -15,13 +16,9 @@ fn two_digits(number: u8) -> (u8, u8)
 }
 
 /// The Time of a date and a time of day.
+#[tactic(auto, using(crate::proofs::Days::real_bounds))]
 fn time_with(civil: &Civil) -> Time
-    requires year { civil.now.year ≤ 9999 }
-    requires month { civil.now.month < 100 }
-    requires day { civil.now.day < 100 }
-    requires hour { civil.now.hour < 100 }
-    requires minute { civil.now.minute < 100 }
-    requires second { civil.now.second < 100 }
+    requires { IsReal civil.now }
     ensures { result ≡ spec.time_with civil.now }
 {
     let c = two_digits((civil.year / 100) as u8);
