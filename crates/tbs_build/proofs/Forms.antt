@@ -28,7 +28,7 @@ rule_of_serial (b ∷ c ∷ rest) is =
     let high = is.1 in
     rw (ne_eqb b 0 (omega arith), ne_eqb b 255 (omega arith)) refl
 
-integer : (serial : List ℕ) → IsSerial serial → length serial ≤ 16 → IsElement 2 serial
+pub integer : (serial : List ℕ) → IsSerial serial → length serial ≤ 16 → IsElement 2 serial
 integer serial is few = record { one_byte_tag = λ e. cc e; size = omega arith; rule = rule_of_serial serial is }
 
 rule_of_text : (content : List ℕ) → IsTrue (keeps_rule 0x82 content)
