@@ -6,3 +6,4 @@ pub mod GateCa
 pub mod Good
 pub mod Values
 pub mod Bodies
+pub mod Readings

@@ -8,6 +8,7 @@ use Rattle.names_core.specs.Target.{target_text}
 use Rattle.cert_time.specs.Time.{time_of, tag_of, text_of}
 use Rattle.tbs_build.specs.Certificate.{algorithm_bytes}
 use Rattle.tbs_build.specs.Extension.{alone, extensions_of, extension_trees}
+use Rattle.tbs_build.specs.Names.{general_names}
 use Rattle.tbs_build.specs.Plan.{Plan}
 
 -- ---- its parts
@@ -83,3 +84,18 @@ pub record IsBodyTree (plan : Plan) (tree : Node) : Type 0 where
   pub issuer_spelled : spelling issuer ≡ plan.profile.issuer
   pub key_spelled : spelling key ≡ plan.spki
   pub is : tree ≡ body_tree plan issuer key
+
+-- two plans say the same in a certificate, where targets are seen as the names that they are there
+pub record SaysTheSame (plan other : Plan) : Type 0 where
+  pub serial : plan.serial ≡ other.serial
+  pub not_before : plan.not_before ≡ other.not_before
+  pub not_after : plan.not_after ≡ other.not_after
+  pub spki : plan.spki ≡ other.spki
+  pub kind : plan.kind ≡ other.kind
+  pub names : general_names plan.targets ≡ general_names other.targets
+  pub common : plan.common ≡ other.common
+  pub issuer : plan.profile.issuer ≡ other.profile.issuer
+  pub alg : plan.profile.alg ≡ other.profile.alg
+  pub key_id : plan.profile.key_id.0 ≡ other.profile.key_id.0
+  pub crl : plan.profile.crl ≡ other.profile.crl
+  pub aia : plan.profile.aia ≡ other.profile.aia

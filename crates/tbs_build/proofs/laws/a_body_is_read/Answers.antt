@@ -2,6 +2,7 @@ use Rattle.std.proofs.Common.{subst}
 use Rattle.der_text.specs.Tree.{Node}
 use Rattle.tbs_build.specs.Body.{IsBodyTree}
 use Rattle.tbs_build.proofs.Bodies.{tree_of, body_is_der, is_body_tree}
+use Rattle.tbs_build.proofs.Readings.{one_plan}
 use Rattle.tbs_build.proofs.Values.{all_spelled}
 use Rattle.tbs_build.proofs.laws.a_body_is_read.Goals as goal
 
@@ -15,3 +16,7 @@ returns-clause-parts c = λ plan tree sound der.
 
 pub returns-clause-values : goal.returns-clause-values
 returns-clause-values c = all_spelled
+
+pub returns-clause-one_plan : goal.returns-clause-one_plan
+returns-clause-one_plan c =
+    one_plan c.what_is_spelled_is_read.ensures.alone c.times_are_read_again.ensures.written c.times_are_read_again.ensures.one_number c.one_kind.ensures
