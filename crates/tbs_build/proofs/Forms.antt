@@ -56,12 +56,17 @@ unfolding AreInForm
 names_in_form [] short = tt
 names_in_form (target ∷ targets) short = (name_in_form target short.0, names_in_form targets short.1)
 
-pub small_is_der : (serial names content : List ℕ) (targets : List Target) → IsSerial serial → length serial ≤ 16 → AllByRecursion IsShort targets → names ≡ spellings (general_names targets) → length names ≤ 256 * 255 → content ≡ element 2 serial ++ element 48 names → length content ≤ 23 + 256 * 255 → IsDer (element 48 content) (small_body_tree serial targets)
+pub small_is_der : (serial names content : List ℕ) (targets : List Target) → IsSerial serial → length serial ≤ 16
+    → AllByRecursion IsShort targets → names ≡ spellings (general_names targets) → length names ≤ 256 * 255
+    → content ≡ element 2 serial ++ element 48 names → length content ≤ 23 + 256 * 255
+    → IsDer (element 48 content) (small_body_tree serial targets)
 unfolding IsInForm AreInForm
 small_is_der serial names content targets is few short named names_few contained content_few =
     let inner = spellings (general_names targets) in
-    let last : element 48 names ≡ element 48 inner ++ [] = ap (element 48) named ∙ sym (append-nil (element 48 inner)) in
-    let same : content ≡ element 2 serial ++ (element 48 inner ++ []) = contained ∙ ap (λ (n : List ℕ). element 2 serial ++ n) last in
+    let last : element 48 names ≡ element 48 inner ++ [] = ap (element 48) named
+    ∙ sym (append-nil (element 48 inner)) in
+    let same : content ≡ element 2 serial ++ (element 48 inner ++ []) = contained
+    ∙ ap (λ (n : List ℕ). element 2 serial ++ n) last in
     let names_size : length names < 2 ^ 32 = omega arith in
     let size : length content < 2 ^ 32 = omega arith in
     record {
@@ -71,7 +76,14 @@ small_is_der serial names content targets is few short named names_few contained
         sequence _ (subst (λ (c : List ℕ). length c < 2 ^ 32) same size),
         (
           (refl, integer serial is few),
-          ((refl, sequence _ (subst (λ (c : List ℕ). length c < 2 ^ 32) named names_size), names_in_form targets short), tt),
+          (
+            (
+              refl,
+              sequence _ (subst (λ (c : List ℕ). length c < 2 ^ 32) named names_size),
+              names_in_form targets short,
+            ),
+            tt,
+          ),
         ),
       );
     }

@@ -13,7 +13,9 @@ is_issuer : IsIssuerName gate_ca
 unfolding gate_ca length_octets IsInForm AreInForm keeps_rule is_primitive_content
 is_issuer = record {
   short = omega arith;
-  parts = also (constructed 49 (also (constructed 48 (also (primitive 6 (0x55 ∷ 0x04 ∷ 0x03 ∷ [])) (also (primitive 12 (0x47 ∷ 0x61 ∷ 0x74 ∷ 0x65 ∷ 0x20 ∷ 0x43 ∷ 0x41 ∷ [])) no_nodes))) no_nodes)) no_nodes;
+  parts = also (constructed 49 (also
+      (constructed 48 (also (primitive 6 (0x55 ∷ 0x04 ∷ 0x03 ∷ []))
+      (also (primitive 12 (0x47 ∷ 0x61 ∷ 0x74 ∷ 0x65 ∷ 0x20 ∷ 0x43 ∷ 0x41 ∷ [])) no_nodes))) no_nodes)) no_nodes;
   spelled = refl;
   form = (
     refl,
@@ -39,6 +41,7 @@ is_issuer = record {
   );
 }
 
-pub gate_ca_is_issuer : (bytes : List ℕ) → bytes ≡ 0x30 ∷ 0x12 ∷ 0x31 ∷ 0x10 ∷ 0x30 ∷ 0x0e ∷ 0x06 ∷ 0x03 ∷ 0x55 ∷ 0x04 ∷ 0x03 ∷ 0x0c ∷ 0x07 ∷ 0x47 ∷ 0x61 ∷ 0x74 ∷ 0x65 ∷ 0x20 ∷ 0x43 ∷ 0x41 ∷ [] → IsIssuerName bytes
+pub gate_ca_is_issuer : (bytes : List ℕ)
+    → bytes ≡ 0x30 ∷ 0x12 ∷ 0x31 ∷ 0x10 ∷ 0x30 ∷ 0x0e ∷ 0x06 ∷ 0x03 ∷ 0x55 ∷ 0x04 ∷ 0x03 ∷ 0x0c ∷ 0x07 ∷ 0x47 ∷ 0x61 ∷ 0x74 ∷ 0x65 ∷ 0x20 ∷ 0x43 ∷ 0x41 ∷ [] → IsIssuerName bytes
 unfolding gate_ca
 gate_ca_is_issuer bytes e = subst IsIssuerName (sym e) is_issuer

@@ -68,20 +68,33 @@ fourth_tag = record { one_byte_tag = λ e. cc e; rule = λ content. refl }
 
 -- ---- nodes
 
-pub good_element : (levels tag most : ℕ) (content : List ℕ) → is_constructed tag ≡ false → IsElement tag content → length content ≤ most → Good (suc levels) (6 + most) (primitive tag content)
+pub good_element : (levels tag most : ℕ) (content : List ℕ) → is_constructed tag ≡ false → IsElement tag content
+    → length content ≤ most → Good (suc levels) (6 + most) (primitive tag content)
 unfolding IsInForm
 good_element levels tag most content bit is few =
     record { form = (bit, is); size = omega (arith, length-element tag content) }
 
-pub good_primitive : (levels tag most : ℕ) (content : List ℕ) → IsFree tag → is_constructed tag ≡ false → length content ≤ most → most < 2 ^ 32 → Good (suc levels) (6 + most) (primitive tag content)
+pub good_primitive : (levels tag most : ℕ) (content : List ℕ) → IsFree tag → is_constructed tag ≡ false
+    → length content ≤ most → most < 2 ^ 32 → Good (suc levels) (6 + most) (primitive tag content)
 good_primitive levels tag most content free bit few low =
-    good_element levels tag most content bit (record { one_byte_tag = free.one_byte_tag; size = omega arith; rule = free.rule content }) few
+    good_element levels tag most content bit
+    (record { one_byte_tag = free.one_byte_tag; size = omega arith; rule = free.rule content }) few
 
-pub good_constructed : (levels tag most : ℕ) (parts : Nodes) → IsFree tag → is_constructed tag ≡ true → most < 2 ^ 32 → AllGood levels most parts → Good (suc levels) (6 + most) (constructed tag parts)
+pub good_constructed : (levels tag most : ℕ) (parts : Nodes) → IsFree tag → is_constructed tag ≡ true
+    → most < 2 ^ 32 → AllGood levels most parts → Good (suc levels) (6 + most) (constructed tag parts)
 unfolding IsInForm
 good_constructed levels tag most parts free bit low good =
     record {
-      form = (bit, record { one_byte_tag = free.one_byte_tag; size = omega (arith, good.size); rule = free.rule (spellings parts) }, good.form);
+      form = (
+        bit,
+        record {
+          one_byte_tag = free.one_byte_tag;
+          size = omega (arith, good.size);
+          rule = free.rule
+              (spellings parts);
+        },
+        good.form,
+      );
       size = omega (arith, good.size, length-element tag (spellings parts));
     }
 
@@ -89,10 +102,15 @@ pub none : (levels : ℕ) → AllGood levels 0 no_nodes
 unfolding AreInForm
 none levels = record { form = tt; size = omega arith }
 
-pub and : {levels m n : ℕ} {first : Node} {others : Nodes} → Good levels m first → AllGood levels n others → AllGood levels (m + n) (also first others)
+pub and : {levels m n : ℕ} {first : Node} {others : Nodes} → Good levels m first → AllGood levels n others
+    → AllGood levels (m + n) (also first others)
 unfolding AreInForm
 and {first = first} {others = others} good rest =
-    record { form = (good.form, rest.form); size = omega (arith, good.size, rest.size, length-append (spelling first) (spellings others)) }
+    record {
+      form = (good.form, rest.form);
+      size = omega
+          (arith, good.size, rest.size, length-append (spelling first) (spellings others));
+    }
 
 pub only : {levels m : ℕ} {first : Node} → Good levels m first → AllGood levels (m + 0) (alone first)
 only {levels = levels} good = and good (none levels)

@@ -27,4 +27,5 @@ unfolding length_octets
 five_octets n = grind arith
 
 pub length-element : (tag : ℕ) (content : List ℕ) → length (element tag content) ≤ 6 + length content
-length-element tag content = omega (arith, five_octets (length content), length-append (length_octets (length content)) content)
+length-element tag content = omega
+    (arith, five_octets (length content), length-append (length_octets (length content)) content)

@@ -21,7 +21,8 @@ name_good levels (Dns name) short = good_primitive levels 0x82 253 _ dns_name re
 name_good levels (Ip (V4 octets)) short = good_primitive levels 0x87 253 _ ip_address refl short (omega arith)
 name_good levels (Ip (V6 octets)) short = good_primitive levels 0x87 253 _ ip_address refl short (omega arith)
 
-names_good : (levels : ℕ) (targets : List Target) → AllByRecursion IsShort targets → AllGood (suc levels) (259 * length targets) (general_names targets)
+names_good : (levels : ℕ) (targets : List Target) → AllByRecursion IsShort targets
+    → AllGood (suc levels) (259 * length targets) (general_names targets)
 names_good levels [] short = none (suc levels)
 names_good levels (target ∷ targets) short =
     all_at_most (and (name_good levels target short.0) (names_good levels targets short.1)) (omega arith)
@@ -34,33 +35,41 @@ record IsWritable (most : ℕ) (e : Extension) : Type 0 where
   short : length e.identifier ≤ 8
   rule : IsTrue (keeps_rule 6 e.identifier)
 
-identifier_is : (identifier : List ℕ) → length identifier ≤ 9 → IsTrue (keeps_rule 6 identifier) → IsElement 6 identifier
+identifier_is : (identifier : List ℕ) → length identifier ≤ 9 → IsTrue (keeps_rule 6 identifier)
+    → IsElement 6 identifier
 identifier_is identifier short rule = record { one_byte_tag = λ e. cc e; size = omega arith; rule = rule }
 
 true_is : IsElement 1 (255 ∷ [])
 unfolding keeps_rule is_primitive_content
 true_is = record { one_byte_tag = λ e. cc e; size = omega arith; rule = refl }
 
-critical_good : (levels most : ℕ) (critical : Bool) (others : Nodes) → AllGood (suc levels) most others → AllGood (suc levels) (7 + most) (with_critical critical others)
+critical_good : (levels most : ℕ) (critical : Bool) (others : Nodes) → AllGood (suc levels) most others
+    → AllGood (suc levels) (7 + most) (with_critical critical others)
 critical_good levels most true others good = and (good_element levels 1 1 (255 ∷ []) refl true_is (omega arith)) good
 critical_good levels most false others good = all_at_most good (omega arith)
 
-extension_good : (levels most : ℕ) (e : Extension) → most < 2 ^ 24 → IsWritable most e → Good (suc (suc levels)) (33 + most) (extension_tree e)
+extension_good : (levels most : ℕ) (e : Extension) → most < 2 ^ 24 → IsWritable most e
+    → Good (suc (suc levels)) (33 + most) (extension_tree e)
 extension_good levels most e low is =
     let string = only (good_primitive levels 4 most (spelling e.value) octet_string refl is.value.size (omega arith)) in
     let flagged = critical_good levels (6 + most + 0) e.critical _ string in
-    let named = and (good_element levels 6 8 e.identifier refl (identifier_is e.identifier (omega (arith, is.short)) is.rule) is.short) flagged in
-    at_most (good_constructed (suc levels) 48 (27 + most) _ sequence_tag refl (omega arith) (all_at_most named (omega arith))) (omega arith)
+    let named = and (good_element levels 6 8 e.identifier refl
+    (identifier_is e.identifier (omega (arith, is.short)) is.rule) is.short) flagged in
+    at_most (good_constructed (suc levels) 48 (27 + most) _ sequence_tag refl (omega arith)
+    (all_at_most named (omega arith))) (omega arith)
 
 -- ---- the seven
 
-pub object_good : (identifier : List ℕ) → length identifier ≤ 9 → IsTrue (keeps_rule 6 identifier) → {levels : ℕ} → Good (suc levels) 15 (primitive 6 identifier)
-object_good identifier short rule {levels} = good_element levels 6 9 identifier refl (identifier_is identifier short rule) short
+pub object_good : (identifier : List ℕ) → length identifier ≤ 9 → IsTrue (keeps_rule 6 identifier) → {levels : ℕ}
+    → Good (suc levels) 15 (primitive 6 identifier)
+object_good identifier short rule {levels} = good_element levels 6 9 identifier refl
+    (identifier_is identifier short rule) short
 
 key_identifier_is : (key_id : List ℕ) → length key_id ≡ 20 → IsWritable 32 (authority_key_identifier key_id)
 unfolding keeps_rule is_primitive_content
 key_identifier_is key_id size = record {
-  value = good_constructed 31 48 26 _ sequence_tag refl (omega arith) (only (good_primitive 30 0x80 20 key_id key_identifier refl (omega arith) (omega arith)));
+  value = good_constructed 31 48 26 _ sequence_tag refl (omega arith)
+      (only (good_primitive 30 0x80 20 key_id key_identifier refl (omega arith) (omega arith)));
   short = omega arith;
   rule = refl;
 }
@@ -89,15 +98,18 @@ key_usage_is kind = record {
 extended_key_usage_is : IsWritable 21 extended_key_usage
 unfolding keeps_rule is_primitive_content
 extended_key_usage_is = record {
-  value = good_constructed 31 48 15 _ sequence_tag refl (omega arith) (only (object_good server_auth (omega arith) refl));
+  value = good_constructed 31 48 15 _ sequence_tag refl (omega arith)
+      (only (object_good server_auth (omega arith) refl));
   short = omega arith;
   rule = refl;
 }
 
-alt_name_is : (common : Bool) (targets : List Target) → length targets ≤ 255 → AllByRecursion IsShort targets → IsWritable 66051 (subject_alt_name common targets)
+alt_name_is : (common : Bool) (targets : List Target) → length targets ≤ 255 → AllByRecursion IsShort targets
+    → IsWritable 66051 (subject_alt_name common targets)
 unfolding keeps_rule is_primitive_content
 alt_name_is common targets count short = record {
-  value = good_constructed 31 48 66045 _ sequence_tag refl (omega arith) (all_at_most (names_good 30 targets short) (omega arith));
+  value = good_constructed 31 48 66045 _ sequence_tag refl (omega arith)
+      (all_at_most (names_good 30 targets short) (omega arith));
   short = omega arith;
   rule = refl;
 }
@@ -105,7 +117,9 @@ alt_name_is common targets count short = record {
 policies_are : IsWritable 27 certificate_policies
 unfolding keeps_rule is_primitive_content
 policies_are = record {
-  value = good_constructed 31 48 21 _ sequence_tag refl (omega arith) (only (good_constructed 30 48 15 _ sequence_tag refl (omega arith) (only (object_good domain_validated (omega arith) refl))));
+  value = good_constructed 31 48 21 _ sequence_tag refl (omega arith)
+      (only (good_constructed 30 48 15 _ sequence_tag refl (omega arith)
+      (only (object_good domain_validated (omega arith) refl))));
   short = omega arith;
   rule = refl;
 }
@@ -119,7 +133,8 @@ points_are address short =
     let full_name = good_constructed 28 0xa0 518 _ first_tag refl (omega arith) (only (uri_good 27 address short)) in
     let point = good_constructed 29 0xa0 524 _ first_tag refl (omega arith) (only full_name) in
     record {
-      value = good_constructed 31 48 536 _ sequence_tag refl (omega arith) (only (good_constructed 30 48 530 _ sequence_tag refl (omega arith) (only point)));
+      value = good_constructed 31 48 536 _ sequence_tag refl (omega arith)
+          (only (good_constructed 30 48 530 _ sequence_tag refl (omega arith) (only point)));
       short = omega arith;
       rule = refl;
     }
@@ -129,7 +144,8 @@ unfolding keeps_rule is_primitive_content
 access_is address short =
     let description = and (object_good ca_issuers (omega arith) refl) (only (uri_good 29 address short)) in
     record {
-      value = good_constructed 31 48 539 _ sequence_tag refl (omega arith) (only (good_constructed 30 48 533 _ sequence_tag refl (omega arith) description));
+      value = good_constructed 31 48 539 _ sequence_tag refl (omega arith)
+          (only (good_constructed 30 48 533 _ sequence_tag refl (omega arith) description));
       short = omega arith;
       rule = refl;
     }
@@ -163,12 +179,15 @@ all_spelled plan sound = (
   ),
 )
 
-pub all_good : (levels : ℕ) (plan : Plan) → IsSound plan → AllGood (suc (suc levels)) 67457 (extension_trees (extensions_of plan))
+pub all_good : (levels : ℕ) (plan : Plan) → IsSound plan
+    → AllGood (suc (suc levels)) 67457 (extension_trees (extensions_of plan))
 all_good levels plan sound =
     and (extension_good levels 32 _ (omega arith) (key_identifier_is plan.profile.key_id.0 sound.profile.key_id))
     (and (extension_good levels 8 _ (omega arith) (key_usage_is plan.kind))
     (and (extension_good levels 21 _ (omega arith) extended_key_usage_is)
     (and (extension_good levels 66051 _ (omega arith) (alt_name_is plan.common plan.targets sound.count sound.short))
     (and (extension_good levels 27 _ (omega arith) policies_are)
-    (and (extension_good levels 542 _ (omega arith) (points_are plan.profile.crl (address_is_short _ sound.profile.crl)))
-    (only (extension_good levels 545 _ (omega arith) (access_is plan.profile.aia (address_is_short _ sound.profile.aia)))))))))
+    (and (extension_good levels 542 _ (omega arith)
+    (points_are plan.profile.crl (address_is_short _ sound.profile.crl)))
+    (only (extension_good levels 545 _ (omega arith)
+    (access_is plan.profile.aia (address_is_short _ sound.profile.aia)))))))))

@@ -1,4 +1,5 @@
--- The body of a certificate: a TBSCertificate, as the bytes of a plan and as a tree. The sections are those of RFC 5280.
+-- The body of a certificate: a TBSCertificate, as the bytes of a plan and as a tree. The sections are those of
+-- RFC 5280.
 use Rattle.std.specs.Prelude.{◌≡◌, ℕ, List, [], ◌∷◌, ◌++◌, if◌then◌else◌}
 use Rattle.gate_base.specs.declared.name.Target.{Target}
 use Rattle.gate_base.specs.declared.profile.SigAlg.{SigAlg}
@@ -21,12 +22,21 @@ version = constructed 0xa0 (alone (primitive 2 (2 ∷ [])))
 abbrev pub serial_number : Plan → Node
 serial_number plan = primitive 2 plan.serial
 
--- sha256WithRSAEncryption has a NULL behind it (RFC 4055, section 5), the others nothing (RFC 5758, section 3.2)
+-- 1.2.840.113549.1.1.11, with a NULL behind it (RFC 4055, section 5)
+abbrev pub sha256_with_rsa : List ℕ
+sha256_with_rsa = 0x2a ∷ 0x86 ∷ 0x48 ∷ 0x86 ∷ 0xf7 ∷ 0x0d ∷ 0x01 ∷ 0x01 ∷ 0x0b ∷ []
+
+-- 1.2.840.10045.4.3.2 and .3, with nothing behind them (RFC 5758, section 3.2)
+abbrev pub ecdsa_with_sha256 : List ℕ
+ecdsa_with_sha256 = 0x2a ∷ 0x86 ∷ 0x48 ∷ 0xce ∷ 0x3d ∷ 0x04 ∷ 0x03 ∷ 0x02 ∷ []
+
+abbrev pub ecdsa_with_sha384 : List ℕ
+ecdsa_with_sha384 = 0x2a ∷ 0x86 ∷ 0x48 ∷ 0xce ∷ 0x3d ∷ 0x04 ∷ 0x03 ∷ 0x03 ∷ []
+
 abbrev pub algorithm_tree : SigAlg → Node
-algorithm_tree RsaSha256 =
-    constructed 48 (also (primitive 6 (0x2a ∷ 0x86 ∷ 0x48 ∷ 0x86 ∷ 0xf7 ∷ 0x0d ∷ 0x01 ∷ 0x01 ∷ 0x0b ∷ [])) (alone (primitive 5 [])))
-algorithm_tree EcdsaSha256 = constructed 48 (alone (primitive 6 (0x2a ∷ 0x86 ∷ 0x48 ∷ 0xce ∷ 0x3d ∷ 0x04 ∷ 0x03 ∷ 0x02 ∷ [])))
-algorithm_tree EcdsaSha384 = constructed 48 (alone (primitive 6 (0x2a ∷ 0x86 ∷ 0x48 ∷ 0xce ∷ 0x3d ∷ 0x04 ∷ 0x03 ∷ 0x03 ∷ [])))
+algorithm_tree RsaSha256 = constructed 48 (also (primitive 6 sha256_with_rsa) (alone (primitive 5 [])))
+algorithm_tree EcdsaSha256 = constructed 48 (alone (primitive 6 ecdsa_with_sha256))
+algorithm_tree EcdsaSha384 = constructed 48 (alone (primitive 6 ecdsa_with_sha384))
 
 abbrev pub time_node : ℕ → Node
 time_node moment = primitive (tag_of (time_of moment)) (text_of (time_of moment))
@@ -41,7 +51,8 @@ common_name_type = 0x55 ∷ 0x04 ∷ 0x03 ∷ []
 
 -- one relative name of one attribute, a commonName as UTF8String (sections 4.1.2.4 and 4.1.2.6)
 abbrev pub common_name : List ℕ → Node
-common_name text = constructed 49 (alone (constructed 48 (also (primitive 6 common_name_type) (alone (primitive 12 text)))))
+common_name text =
+    constructed 49 (alone (constructed 48 (also (primitive 6 common_name_type) (alone (primitive 12 text)))))
 
 abbrev pub first_text : List Target → List ℕ
 first_text [] = []
@@ -63,7 +74,8 @@ extensions plan = constructed 0xa3 (alone (constructed 48 (extension_trees (exte
 -- the issuer's name and the key stand as they are in the plan
 abbrev pub front_of : Plan → List ℕ
 front_of plan =
-    spelling version ++ spelling (serial_number plan) ++ algorithm_bytes plan.profile.alg ++ plan.profile.issuer ++ spelling (validity plan)
+    spelling version ++ spelling (serial_number plan) ++ algorithm_bytes plan.profile.alg ++ plan.profile.issuer
+    ++ spelling (validity plan)
 
 abbrev pub body_content : Plan → List ℕ
 body_content plan = front_of plan ++ spelling (subject plan) ++ plan.spki ++ spelling (extensions plan)

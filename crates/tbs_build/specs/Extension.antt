@@ -38,7 +38,11 @@ extension_tree e = extension_with e.identifier e.critical (spelling e.value)
 -- the identifier of the authority's key (section 4.2.1.1), [0] of the SEQUENCE
 abbrev pub authority_key_identifier : List ℕ → Extension
 authority_key_identifier key_id =
-    record { identifier = 0x55 ∷ 0x1d ∷ 0x23 ∷ []; critical = false; value = constructed 48 (alone (primitive 0x80 key_id)) }
+    record {
+      identifier = 0x55 ∷ 0x1d ∷ 0x23 ∷ [];
+      critical = false;
+      value = constructed 48 (alone (primitive 0x80 key_id));
+    }
 
 -- digitalSignature, bit 0, and for an RSA key keyEncipherment too, bit 2; the unused bits come first (section 4.2.1.3)
 abbrev pub usage_bits : KeyKind → List ℕ
@@ -56,12 +60,20 @@ server_auth = 0x2b ∷ 0x06 ∷ 0x01 ∷ 0x05 ∷ 0x05 ∷ 0x07 ∷ 0x03 ∷ 0x0
 
 abbrev pub extended_key_usage : Extension
 extended_key_usage =
-    record { identifier = 0x55 ∷ 0x1d ∷ 0x25 ∷ []; critical = false; value = constructed 48 (alone (primitive 6 server_auth)) }
+    record {
+      identifier = 0x55 ∷ 0x1d ∷ 0x25 ∷ [];
+      critical = false;
+      value = constructed 48 (alone (primitive 6 server_auth));
+    }
 
 -- the names in the targets' order; critical exactly where the subject is empty (section 4.2.1.6)
 abbrev pub subject_alt_name : Bool → List Target → Extension
 subject_alt_name common targets =
-    record { identifier = 0x55 ∷ 0x1d ∷ 0x11 ∷ []; critical = not common; value = constructed 48 (general_names targets) }
+    record {
+      identifier = 0x55 ∷ 0x1d ∷ 0x11 ∷ [];
+      critical = not common;
+      value = constructed 48 (general_names targets);
+    }
 
 -- the policy domain-validated of BR (section 7.1.6.1), 2.23.140.1.2.1
 abbrev pub domain_validated : List ℕ
@@ -80,13 +92,17 @@ certificate_policies =
 abbrev pub uri : List ℕ → Node
 uri address = primitive 0x86 address
 
--- one DistributionPoint with [0] a distributionPoint, which is [0] a fullName of one address (section 4.2.1.13)
+-- [0] a distributionPoint, which is [0] a fullName of one address
+abbrev pub point_name : List ℕ → Node
+point_name address = constructed 0xa0 (alone (constructed 0xa0 (alone (uri address))))
+
+-- one DistributionPoint with nothing beside its name (section 4.2.1.13)
 abbrev pub crl_distribution_points : List ℕ → Extension
 crl_distribution_points address =
     record {
       identifier = 0x55 ∷ 0x1d ∷ 0x1f ∷ [];
       critical = false;
-      value = constructed 48 (alone (constructed 48 (alone (constructed 0xa0 (alone (constructed 0xa0 (alone (uri address))))))));
+      value = constructed 48 (alone (constructed 48 (alone (point_name address))));
     }
 
 -- id-ad-caIssuers, 1.3.6.1.5.5.7.48.2 (section 4.2.2.1)

@@ -33,7 +33,8 @@ plan_of p = record {
   profile = p.profile.now;
 }
 
--- The first byte is 40 to 7f: the number is positive (RFC 5280, section 4.1.2.2), and none of its bytes can be left out.
+-- The first byte is 40 to 7f: the number is positive (RFC 5280, section 4.1.2.2), and none of its bytes can be left
+-- out.
 abbrev pub IsSerial : List ℕ → Type 0
 IsSerial [] = ⊥
 IsSerial (first ∷ rest) = (64 ≤ first) × (first < 128)
@@ -46,8 +47,9 @@ abbrev pub begins_with_name : List Target → Bool
 begins_with_name [] = false
 begins_with_name (first ∷ rest) = is_name first
 
--- The plan can be met: its serial number has 16 bytes, its times are in order and end with the year 9999, its key is good and
--- of the kind that it tells, it has 1 to 255 targets, and a commonName can be made of the first where one is wanted.
+-- The plan can be met: its serial number has 16 bytes, its times are in order and end with the year 9999, its key is
+-- good and of the kind that it tells, it has 1 to 255 targets, and a commonName can be made of the first where one is
+-- wanted.
 pub record IsSound (plan : Plan) : Type 0 where
   pub serial : IsSerial plan.serial
   pub serial_size : length plan.serial ≡ 16

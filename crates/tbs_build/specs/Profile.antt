@@ -4,8 +4,8 @@ use Rattle.std.specs.List.{list_all, starts_with}
 use Rattle.gate_base.specs.declared.profile.Profile.{Profile}
 use Rattle.der_text.specs.Tree.{Nodes, constructed, spelling, IsInForm}
 
--- A Name (RFC 5280, section 4.1.2.4) is a SEQUENCE. It stands one level below the certificate's body, so it has one level
--- less than a tree may have.
+-- A Name (RFC 5280, section 4.1.2.4) is a SEQUENCE. It stands one level below the certificate's body, so it has one
+-- level less than a tree may have.
 pub record IsIssuerName (bytes : List ℕ) : Type 0 where
   pub short : length bytes ≤ 1024
   pub parts : Nodes

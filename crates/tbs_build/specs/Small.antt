@@ -7,4 +7,5 @@ pub use Rattle.tbs_build.specs.Plan.{IsSerial}
 
 -- a SEQUENCE of the serial number as an INTEGER and a SEQUENCE of the names
 abbrev pub small_body_tree : List ℕ → List Target → Node
-small_body_tree serial targets = constructed 48 (also (primitive 2 serial) (also (constructed 48 (general_names targets)) no_nodes))
+small_body_tree serial targets =
+    constructed 48 (also (primitive 2 serial) (also (constructed 48 (general_names targets)) no_nodes))

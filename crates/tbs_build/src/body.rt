@@ -116,7 +116,8 @@ fn push_front(p: &Plan<'_>, out: &mut Vec<u8>) -> Result<(), NoMemory>
 /// Appends the extensions about the keys and the names.
 fn push_key_and_names(p: &Plan<'_>, out: &mut Vec<u8>) -> Result<(), NoMemory>
     requires { IsSound (plan_of p.now) }
-    ensures ok { OnOk result (out.new.items ≡ out.old.items ++ spellings (extension_trees (about_key_and_names (plan_of p.now)))) }
+    ensures ok { OnOk result (out.new.items ≡ out.old.items
+        ++ spellings (extension_trees (about_key_and_names (plan_of p.now)))) }
     ensures few { OnOk result (length out.new.items ≤ length out.old.items + 65536) }
 {
     push_authority_key_identifier(&p.profile.key_id, out)?;
@@ -129,7 +130,8 @@ fn push_key_and_names(p: &Plan<'_>, out: &mut Vec<u8>) -> Result<(), NoMemory>
 #[tactic(auto, using(crate::proofs::Plans::address_is_short))]
 fn push_policy_and_addresses(p: &Plan<'_>, out: &mut Vec<u8>) -> Result<(), NoMemory>
     requires { IsSound (plan_of p.now) }
-    ensures ok { OnOk result (out.new.items ≡ out.old.items ++ spellings (extension_trees (about_policy_and_addresses (plan_of p.now)))) }
+    ensures ok { OnOk result (out.new.items ≡ out.old.items
+        ++ spellings (extension_trees (about_policy_and_addresses (plan_of p.now)))) }
     ensures few { OnOk result (length out.new.items ≤ length out.old.items + 1200) }
 {
     push_certificate_policies(out)?;

@@ -38,8 +38,10 @@ pub fn push_element(tag: u8, content: &[u8], out: &mut Vec<u8>) -> Result<(), No
     requires { length content.now < 2 ^ 20 }
     ensures ok { OnOk result (out.new.items ≡ out.old.items ++ element tag content.now) }
     ensures six { OnOk result (length out.new.items ≤ length out.old.items + (6 + length content.now)) }
-    ensures four { OnOk result (length content.now < 2 ^ 16 → length out.new.items ≤ length out.old.items + (4 + length content.now)) }
-    ensures three { OnOk result (length content.now < 2 ^ 8 → length out.new.items ≤ length out.old.items + (3 + length content.now)) }
+    ensures four { OnOk result (length content.now < 2 ^ 16
+        → length out.new.items ≤ length out.old.items + (4 + length content.now)) }
+    ensures three { OnOk result (length content.now < 2 ^ 8
+        → length out.new.items ≤ length out.old.items + (3 + length content.now)) }
 {
     a_head_has_six_bytes();
     a_head_is_shorter();

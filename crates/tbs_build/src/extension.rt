@@ -75,7 +75,8 @@ fn push_extension(
 ) -> Result<(), NoMemory>
     requires identifier { length identifier.now ≤ 8 }
     requires value { length value.now < 2 ^ 18 }
-    ensures ok { OnOk result (out.new.items ≡ out.old.items ++ spelling (extension_with identifier.now critical value.now)) }
+    ensures ok { OnOk result (out.new.items ≡ out.old.items
+        ++ spelling (extension_with identifier.now critical value.now)) }
     ensures few { OnOk result (length out.new.items ≤ length out.old.items + (33 + length value.now)) }
 {
     let mut parts = Vec::new(*out.allocator());
@@ -88,7 +89,8 @@ fn push_extension(
 /// Appends authorityKeyIdentifier.
 pub fn push_authority_key_identifier(key_id: &Sixteen4, out: &mut Vec<u8>) -> Result<(), NoMemory>
     requires { length key_id.now.0 ≡ 20 }
-    ensures ok { OnOk result (out.new.items ≡ out.old.items ++ spelling (extension_tree (spec.authority_key_identifier key_id.now.0))) }
+    ensures ok { OnOk result (out.new.items ≡ out.old.items
+        ++ spelling (extension_tree (spec.authority_key_identifier key_id.now.0))) }
     ensures few { OnOk result (length out.new.items ≤ length out.old.items + 65) }
 {
     let alloc = *out.allocator();
@@ -135,7 +137,8 @@ pub fn push_subject_alt_name(
 ) -> Result<(), NoMemory>
     requires count { length targets.now ≤ 255 }
     requires short { AllByRecursion IsShort targets.now }
-    ensures ok { OnOk result (out.new.items ≡ out.old.items ++ spelling (extension_tree (spec.subject_alt_name common targets.now))) }
+    ensures ok { OnOk result (out.new.items ≡ out.old.items
+        ++ spelling (extension_tree (spec.subject_alt_name common targets.now))) }
     ensures few { OnOk result (length out.new.items ≤ length out.old.items + (39 + 256 * 255)) }
 {
     let alloc = *out.allocator();
@@ -171,7 +174,8 @@ fn distribution_point_of(alloc: Global, address: &[u8]) -> Result<Vec<u8>, NoMem
 /// Appends cRLDistributionPoints.
 pub fn push_crl_distribution_points(address: &[u8], out: &mut Vec<u8>) -> Result<(), NoMemory>
     requires { length address.now ≤ 512 }
-    ensures ok { OnOk result (out.new.items ≡ out.old.items ++ spelling (extension_tree (spec.crl_distribution_points address.now))) }
+    ensures ok { OnOk result (out.new.items ≡ out.old.items
+        ++ spelling (extension_tree (spec.crl_distribution_points address.now))) }
     ensures few { OnOk result (length out.new.items ≤ length out.old.items + 575) }
 {
     let value = distribution_point_of(*out.allocator(), address)?;
@@ -194,7 +198,8 @@ fn access_description_of(alloc: Global, address: &[u8]) -> Result<Vec<u8>, NoMem
 /// Appends authorityInfoAccess.
 pub fn push_authority_info_access(address: &[u8], out: &mut Vec<u8>) -> Result<(), NoMemory>
     requires { length address.now ≤ 512 }
-    ensures ok { OnOk result (out.new.items ≡ out.old.items ++ spelling (extension_tree (spec.authority_info_access address.now))) }
+    ensures ok { OnOk result (out.new.items ≡ out.old.items
+        ++ spelling (extension_tree (spec.authority_info_access address.now))) }
     ensures few { OnOk result (length out.new.items ≤ length out.old.items + 577) }
 {
     let value = access_description_of(*out.allocator(), address)?;

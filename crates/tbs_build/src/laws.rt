@@ -14,7 +14,8 @@ use public_key::one_kind;
 pub fn a_body_is_read()
     ensures der { (plan : Plan) → IsSound plan → (tree : Node) × IsDer (body_of plan) tree }
     ensures parts { (plan : Plan) (tree : Node) → IsSound plan → IsDer (body_of plan) tree → IsBodyTree plan tree }
-    ensures one_plan { (plan other : Plan) → IsSound plan → IsSound other → body_of plan ≡ body_of other → SaysTheSame plan other }
+    ensures one_plan { (plan other : Plan) → IsSound plan → IsSound other → body_of plan ≡ body_of other
+        → SaysTheSame plan other }
     ensures values { (plan : Plan) → IsSound plan → AllByRecursion IsSpelled (extensions_of plan) }
 {
     what_is_spelled_is_read();

@@ -142,7 +142,8 @@ fn one(alloc: Global, text: &[u8]) -> Result<Targets, NoMemory>
 
 /// Two targets, of which the first is a name.
 fn two(alloc: Global, text: &[u8], next: &[u8]) -> Result<Targets, NoMemory>
-    ensures { IfOk result (λ targets. (length targets ≡ 2) × AllByRecursion IsShort targets × IsTrue (begins_with_name targets)) }
+    ensures { IfOk result (λ targets. (length targets ≡ 2)
+        × AllByRecursion IsShort targets × IsTrue (begins_with_name targets)) }
 {
     let first = target(alloc, text)?;
     let second = target(alloc, next)?;

@@ -8,7 +8,8 @@ use Rattle.tbs_build.proofs.body.extensions_of.Goals as goal
 pub returns-clause-all : goal.returns-clause-all
 returns-clause-all c =
     let plan = plan_of c.args.p.now in
-    let first : c.push_key_and_names.new.out.items ≡ spellings (extension_trees (about_key_and_names plan)) = search rules in
+    let first : c.push_key_and_names.new.out.items ≡ spellings
+    (extension_trees (about_key_and_names plan)) = search rules in
     c.in_ok-push_policy_and_addresses.ensures.ok
     ∙ ap (λ (bytes : List ℕ). bytes ++ spellings (extension_trees (about_policy_and_addresses plan))) first
     ∙ sym (spellings-append (about_key_and_names plan) (about_policy_and_addresses plan))
