@@ -1,0 +1,19 @@
+//! Which rules of the profile any bytes break, as the body of a certificate.
+#![tactic(auto)]
+
+mod access;
+mod contents;
+mod extension;
+mod front;
+mod identifiers;
+mod key;
+mod lint;
+mod names;
+mod number;
+mod subject;
+mod usage;
+
+pub use lint::lint_body;
+
+#[cfg(test)]
+mod tests;
