@@ -8,7 +8,9 @@ use Rattle.gate_base.specs.declared.name.Target.{Target}
 use Rattle.gate_base.specs.declared.name.Target.TheVariants.{Dns, Ip}
 use Rattle.der_text.specs.Content.{keeps_rule, is_primitive_content}
 use Rattle.der_text.specs.Tree.{element, spellings, IsElement, IsInForm, AreInForm, IsDer}
-use Rattle.tbs_build.specs.Small.{general_name, general_names, small_body_tree, IsSerial, IsShort}
+use Rattle.tbs_build.specs.Names.{general_name, general_names, IsShort}
+use Rattle.tbs_build.specs.Plan.{IsSerial}
+use Rattle.tbs_build.specs.Small.{small_body_tree}
 
 rule_of_sequence : (content : List ℕ) → IsTrue (keeps_rule 48 content)
 unfolding keeps_rule

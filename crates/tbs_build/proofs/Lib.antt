@@ -1,2 +1,4 @@
 pub mod Sizes
 pub mod Forms
+pub mod Plans
+pub mod Extensions

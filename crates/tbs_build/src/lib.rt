@@ -2,9 +2,16 @@
 #![tactic(auto)]
 
 mod algorithm;
+mod body;
+mod element;
+mod extension;
+mod names;
+mod plan;
 mod signing;
 mod small;
 
+pub use body::build;
+pub use plan::Plan;
 pub use signing::{certificate, certificate_len};
 pub use small::small_body;
 

@@ -1,5 +1,5 @@
 ghost use Rattle.std.specs.Prelude.{◌≤◌, length, IsTrue, IfOk};
-ghost use Rattle.tbs_build.specs.Small.{IsShort};
+ghost use Rattle.tbs_build.specs.Names.{IsShort};
 
 use crate::{certificate, certificate_len, small_body};
 use gate_base::{Address, Bytes, NoMemory, SigAlg, Sixteen, Target, Targets};

@@ -1,6 +1,7 @@
 use Rattle.std.proofs.Common.{rules, ◌≡◌, ◌≤◌, ◌++◌, List, ℕ, length, sym, subst}
 use Rattle.der_text.specs.Tree.{element, spellings, IsDer}
-use Rattle.tbs_build.specs.Small.{general_names, small_body_tree}
+use Rattle.tbs_build.specs.Names.{general_names}
+use Rattle.tbs_build.specs.Small.{small_body_tree}
 use Rattle.tbs_build.proofs.Forms.{small_is_der}
 use Rattle.tbs_build.proofs.small.small_body.Goals as goal
 
