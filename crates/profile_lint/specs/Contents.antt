@@ -1,12 +1,13 @@
 -- What bytes say that the rules judge: the parts of a body, its times, and the trees that its key and the values of its
 -- extensions spell.
-use Rattle.std.specs.Prelude.{◌≡◌, ◌↔◌, ℕ, Bool, List, [], Option, Some, None}
+use Rattle.std.specs.Prelude.{◌≡◌, ◌↔◌, ℕ, ℤ, Bool, List, [], Option, Some, None}
 use Rattle.std.specs.List.{find}
 use Rattle.std.specs.Str.{bytes_eq}
 use Rattle.der_text.specs.Tree.{Node, IsDer}
 use Rattle.public_key.specs.Key.{behind_zero}
-use Rattle.tbs_shape.specs.Body.{Body, Extension}
+use Rattle.tbs_shape.specs.Body.{Body, Extension, Primitive}
 use Rattle.tbs_shape.specs.Shape.{IsBody}
+use Rattle.cert_time.specs.Time.{IsTimeText}
 use Rattle.profile_lint.specs.Identifiers as identifiers
 
 abbrev pub or_empty : Option (List Extension) → List Extension
@@ -42,8 +43,14 @@ pub record IsJudged (body : Body) (identifier : List ℕ) (judged : Judged) : Ty
   pub first : judged.extension ≡ extension_named identifier body
   pub read : IsReadingOf (value_of judged.extension) judged.tree
 
+-- the seconds of a time, if it has its form
+pub record IsTime (time : Primitive) (found : Option ℤ) : Type 0 where
+  pub exact : (seconds : ℤ) → (found ≡ Some seconds) ↔ IsTimeText time.tag time.content seconds
+
 pub record Contents : Type 0 where
   pub body : Body
+  pub begins : Option ℤ
+  pub ends : Option ℤ
   pub key : Option Node
   pub names : Judged
   pub usage : Judged
@@ -55,6 +62,8 @@ pub record Contents : Type 0 where
 -- The bytes are a body with these contents. The key is the tree of the bits behind the number of unused ones, which is 0.
 pub record Says (bytes : List ℕ) (c : Contents) : Type 0 where
   pub body : IsBody bytes c.body
+  pub begins : IsTime c.body.not_before c.begins
+  pub ends : IsTime c.body.not_after c.ends
   pub key : IsReadingOf (behind_zero c.body.key_bits) c.key
   pub names : IsJudged c.body identifiers.subject_alt_name c.names
   pub usage : IsJudged c.body identifiers.key_usage c.usage

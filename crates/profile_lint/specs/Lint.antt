@@ -1,5 +1,6 @@
 -- The list of the rules that bytes break.
 use Rattle.std.specs.Prelude.{◌≡◌, ◌⊎◌, ℕ, Bool, true, false, List, [], ◌∷◌, ◌++◌}
+use Rattle.gate_base.specs.Tables.{row_at}
 use Rattle.gate_base.specs.declared.profile.Profile.{Profile}
 use Rattle.gate_base.specs.declared.moment.Moment.{Moment}
 use Rattle.names_core.specs.declared.rule.Rule.{Rule}
@@ -18,6 +19,13 @@ head_rows c profile =
     ∷ (2, rules.serial_is_bad c.body.serial)
     ∷ (3, rules.algorithm_is_bad c.body.algorithm profile)
     ∷ (4, rules.issuer_is_bad c.body.issuer profile)
+    ∷ []
+
+unfoldable pub time_rows : Contents → Moment → List (ℕ × Bool)
+time_rows c moment =
+    (5, rules.a_time_is_bad c.begins c.ends)
+    ∷ (6, rules.ends_early c.begins c.ends)
+    ∷ (7, rules.lasts_too_long (row_at moment.0).validity c.begins c.ends)
     ∷ (8, rules.unique_id_is_present c.body)
     ∷ []
 
@@ -69,7 +77,7 @@ issuer_rows c profile =
 
 abbrev pub rows : Contents → Profile → List Rule → Moment → List (ℕ × Bool)
 rows c profile suffixes moment =
-    head_rows c profile ++ subject_rows c ++ key_rows c ++ name_rows c suffixes ++ usage_rows c ++ issuer_rows c profile
+    head_rows c profile ++ time_rows c moment ++ subject_rows c ++ key_rows c ++ name_rows c suffixes ++ usage_rows c ++ issuer_rows c profile
 
 abbrev pub numbered : Bool → ℕ → List ℕ
 numbered true n = n ∷ []

@@ -11,6 +11,8 @@ judged j = record { extension = option_map (λ extension. extension.now) j.exten
 abbrev pub contents : Contents → said.Contents
 contents c = record {
   body = c.body.now;
+  begins = c.begins;
+  ends = c.ends;
   key = option_map node c.key;
   names = judged c.names;
   usage = judged c.usage;

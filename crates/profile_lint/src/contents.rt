@@ -8,10 +8,11 @@ ghost use Rattle.profile_lint.specs.View as shown;
 
 use crate::extension::extension_named;
 use crate::identifiers as id;
+use cert_time::read_time;
 use der_text::{ReadFault, Tree, read_tree};
 use gate_base::NoMemory;
 use std::alloc::Global;
-use tbs_shape::{Body, Extension};
+use tbs_shape::{Body, Extension, Primitive};
 
 /// An extension, if it is there, and the tree that its value spells.
 #[derive(Drop)]
@@ -24,6 +25,10 @@ pub struct Judged<'b, 'a> {
 #[derive(Drop)]
 pub struct Contents<'b, 'a> {
     pub body: &'b Body<'a>,
+    /// The seconds of notBefore, where it has its form.
+    pub begins: Option<i64>,
+    /// The seconds of notAfter, where it has its form.
+    pub ends: Option<i64>,
     pub key: Option<Tree<'a>>,
     pub names: Judged<'b, 'a>,
     pub usage: Judged<'b, 'a>,
@@ -51,6 +56,12 @@ fn reading_of<'a>(alloc: Global, bytes: Option<&'a [u8]>) -> Result<Option<Tree<
         None => Ok(None),
         Some(bytes) => reading(alloc, bytes),
     }
+}
+
+fn time_of(time: &Primitive<'_>) -> Option<i64>
+    ensures { said.IsTime time.now result }
+{
+    read_time(time.tag(), time.content())
 }
 
 fn value_of<'a>(extension: Option<&Extension<'a>>) -> Option<&'a [u8]>
@@ -98,6 +109,8 @@ pub fn contents_of<'b, 'a>(alloc: Global, body: &'b Body<'a>) -> Result<Contents
     let access = judge(alloc, body, &id::AUTHORITY_INFO_ACCESS)?;
     Ok(Contents {
         body,
+        begins: time_of(body.not_before()),
+        ends: time_of(body.not_after()),
         key,
         names,
         usage,

@@ -12,6 +12,7 @@ mod names;
 mod number;
 mod subject;
 mod usage;
+mod validity;
 
 pub use lint::lint_body;
 

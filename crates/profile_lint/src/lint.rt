@@ -21,7 +21,8 @@ use crate::usage::{
     constraints_are_bad, policies_are_bad, purposes_are_bad, purposes_are_wrong, usage_is_bad,
     usage_is_wrong,
 };
-use gate_base::{Moment, NoMemory, Profile, Rules, Targets};
+use crate::validity::{a_time_is_bad, ends_early, lasts_too_long};
+use gate_base::{Moment, NoMemory, Profile, Rules, Targets, validity_days};
 use names_core::Suffixes;
 use std::alloc::Global;
 use tbs_shape::{BodyFault, read_body};
@@ -30,7 +31,7 @@ use tbs_shape::{BodyFault, read_body};
 type Row = (u8, bool);
 
 #[tactic(auto, unfolding(crate::specs::Lint::head_rows))]
-fn head_rows(c: &Contents<'_, '_>, profile: &Profile) -> [Row; 5]
+fn head_rows(c: &Contents<'_, '_>, profile: &Profile) -> [Row; 4]
     ensures { result ≡ spec.head_rows (view.contents c.now) profile.now }
 {
     [
@@ -38,6 +39,17 @@ fn head_rows(c: &Contents<'_, '_>, profile: &Profile) -> [Row; 5]
         (2, serial_is_bad(c.body.serial())),
         (3, algorithm_is_bad(c.body.algorithm(), profile)),
         (4, issuer_is_bad(c.body.issuer(), profile)),
+    ]
+}
+
+#[tactic(auto, unfolding(crate::specs::Lint::time_rows))]
+fn time_rows(c: &Contents<'_, '_>, m: Moment) -> [Row; 4]
+    ensures { result ≡ spec.time_rows (view.contents c.now) m }
+{
+    [
+        (5, a_time_is_bad(c.begins, c.ends)),
+        (6, ends_early(c.begins, c.ends)),
+        (7, lasts_too_long(validity_days(m), c.begins, c.ends)),
         (8, c.body.has_unique_id()),
     ]
 }
@@ -162,6 +174,7 @@ fn broken_rules(
     let targets = targets_of(alloc, shown(c.names.tree.as_ref()))?;
     let mut broken = Rules::new(alloc);
     push_broken(&head_rows(c, profile), &mut broken)?;
+    push_broken(&time_rows(c, m), &mut broken)?;
     push_broken(&subject_rows(alloc, c, &targets)?, &mut broken)?;
     push_broken(&key_rows(c), &mut broken)?;
     push_broken(&name_rows(alloc, c, suffixes, &targets)?, &mut broken)?;
