@@ -1,5 +1,5 @@
 -- The list of the rules that bytes break.
-use Rattle.std.specs.Prelude.{◌≡◌, ◌⊎◌, ℕ, Bool, true, false, List, [], ◌∷◌, ◌++◌}
+use Rattle.std.specs.Prelude.{◌≡◌, ◌⊎◌, ◌↔◌, ℕ, nat_lt, Bool, true, false, ◌&&◌, IsTrue, List, [], ◌∷◌, ◌++◌}
 use Rattle.gate_base.specs.Tables.{row_at}
 use Rattle.gate_base.specs.declared.profile.Profile.{Profile}
 use Rattle.gate_base.specs.declared.moment.Moment.{Moment}
@@ -96,3 +96,34 @@ HasNoShape bytes = (body : Body) → ¬ IsBody bytes body
 abbrev pub IsListOf : List ℕ → Profile → List Rule → Moment → List ℕ → Type 0
 IsListOf bytes profile suffixes moment list =
     (HasNoShape bytes × (list ≡ 0 ∷ [])) ⊎ ((c : Contents) × Says bytes c × (list ≡ broken (rows c profile suffixes moment)))
+
+-- ---- the same, rule by rule
+
+-- the list has the number
+abbrev pub Has : List ℕ → ℕ → Type 0
+Has [] n = ⊥
+Has (first ∷ others) n = (first ≡ n) ⊎ Has others n
+
+-- one of the rows has this number and a broken rule
+abbrev pub HasBroken : List (ℕ × Bool) → ℕ → Type 0
+HasBroken [] n = ⊥
+HasBroken (row ∷ others) n = ((row.0 ≡ n) × (row.1 ≡ true)) ⊎ HasBroken others n
+
+-- the rule of this number is broken
+abbrev pub IsBroken : ℕ → List ℕ → Profile → List Rule → Moment → Type 0
+IsBroken n bytes profile suffixes moment =
+    ((n ≡ 0) × HasNoShape bytes) ⊎ ((c : Contents) × Says bytes c × HasBroken (rows c profile suffixes moment) n)
+
+-- each number is above the one before it
+abbrev pub is_above : ℕ → List ℕ → Bool
+is_above n [] = true
+is_above n (first ∷ others) = nat_lt n first && is_above first others
+
+abbrev pub is_rising : List ℕ → Bool
+is_rising [] = true
+is_rising (first ∷ others) = is_above first others
+
+-- the list has the numbers of the broken rules and no others, rising
+pub record IsLint (bytes : List ℕ) (profile : Profile) (suffixes : List Rule) (moment : Moment) (list : List ℕ) : Type 0 where
+  pub exact : (n : ℕ) → Has list n ↔ IsBroken n bytes profile suffixes moment
+  pub rising : IsTrue (is_rising list)

@@ -7,6 +7,7 @@ mod extension;
 mod front;
 mod identifiers;
 mod key;
+mod laws;
 mod lint;
 mod names;
 mod number;
@@ -14,6 +15,7 @@ mod subject;
 mod usage;
 mod validity;
 
+pub use laws::one_reading;
 pub use lint::lint_body;
 
 #[cfg(test)]

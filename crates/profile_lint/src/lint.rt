@@ -12,6 +12,7 @@ use crate::extension::{an_extension_is_unknown, extension_named, extensions_are_
 use crate::front::{algorithm_is_bad, issuer_is_bad, serial_is_bad, version_is_bad};
 use crate::identifiers as id;
 use crate::key::{exponent_is_bad, key_algorithm_is_bad, kind_of, modulus_is_bad, point_is_bad};
+use crate::laws::one_reading;
 use crate::names::{
     a_name_has_no_base, a_name_is_bad, an_address_is_reserved, names_are_absent, names_are_bad,
     names_are_many, names_are_wrongly_critical, shown, targets_of,
@@ -192,6 +193,25 @@ fn only_the_shape(alloc: Global) -> Result<Rules, NoMemory>
     Ok(broken)
 }
 
+/// The broken rules, by the contents of the bytes.
+fn listed(
+    alloc: Global,
+    bytes: &[u8],
+    profile: &Profile,
+    suffixes: &Suffixes,
+    m: Moment,
+) -> Result<Rules, NoMemory>
+    ensures { IfOk result (λ list. spec.IsListOf bytes.now profile.now suffixes.now m list) }
+{
+    let body = match read_body(alloc, bytes) {
+        Ok(body) => body,
+        Err(BodyFault::Shape) => return only_the_shape(alloc),
+        Err(BodyFault::NoMemory) => return Err(NoMemory),
+    };
+    let contents = contents_of(alloc, &body)?;
+    broken_rules(alloc, &contents, profile, suffixes, m)
+}
+
 /// The numbers, rising, of the rules that the bytes break as the body of a certificate of this profile at this moment.
 pub fn lint_body(
     alloc: Global,
@@ -200,13 +220,12 @@ pub fn lint_body(
     s: &Suffixes,
     m: Moment,
 ) -> Result<Rules, NoMemory>
+    // The list by the contents of the bytes,
     ensures list { IfOk result (λ list. spec.IsListOf bytes.now p.now s.now m list) }
+    // which has the number of each rule that is broken, and no other, rising.
+    ensures exact { IfOk result (λ list. spec.IsLint bytes.now p.now s.now m list) }
 {
-    let body = match read_body(alloc, bytes) {
-        Ok(body) => body,
-        Err(BodyFault::Shape) => return only_the_shape(alloc),
-        Err(BodyFault::NoMemory) => return Err(NoMemory),
-    };
-    let contents = contents_of(alloc, &body)?;
-    broken_rules(alloc, &contents, p, s, m)
+    one_reading();
+    let list = listed(alloc, bytes, p, s, m)?;
+    Ok(list)
 }
