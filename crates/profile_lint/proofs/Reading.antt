@@ -14,7 +14,8 @@ same_answer holds (Some x) other is also = sym ((also x).1 ((is x).0 refl))
 same_answer holds None (Some y) is also = (is y).1 ((also y).0 refl)
 same_answer holds None None is also = refl
 
-same_reading : (bytes : Option (List ℕ)) (found other : Option Node) → IsReadingOf bytes found → IsReadingOf bytes other → found ≡ other
+same_reading : (bytes : Option (List ℕ)) (found other : Option Node) → IsReadingOf bytes found
+    → IsReadingOf bytes other → found ≡ other
 same_reading None found other none also = none ∙ sym also
 same_reading (Some bytes) found other is also =
     same_answer (IsDer bytes) found other (λ tree. ((is tree).1, (is tree).0)) (λ tree. ((also tree).1, (also tree).0))
@@ -37,7 +38,8 @@ again c = record {
   access = c.access;
 }
 
-same_judged : (body : Body) (identifier : List ℕ) (judged other : Judged) → IsJudged body identifier judged → IsJudged body identifier other → judged ≡ other
+same_judged : (body : Body) (identifier : List ℕ) (judged other : Judged) → IsJudged body identifier judged
+    → IsJudged body identifier other → judged ≡ other
 same_judged body identifier judged other is also =
     let first : judged.extension ≡ other.extension = is.first ∙ sym also.first in
     let read : IsReadingOf (value_of judged.extension) other.tree = rw first also.read in
@@ -48,7 +50,8 @@ same_judged body identifier judged other is also =
 same_time : (time : Primitive) (found other : Option ℤ) → IsTime time found → IsTime time other → found ≡ other
 same_time time found other is also = same_answer (IsTimeText time.tag time.content) found other is.exact also.exact
 
-pub one_reading : (bytes : List ℕ) (c other : Contents) → ((bytes : List ℕ) (body other : Body) → IsBody bytes body → IsBody bytes other → body ≡ other) → Says bytes c → Says bytes other → c ≡ other
+pub one_reading : (bytes : List ℕ) (c other : Contents) → ((bytes : List ℕ) (body other : Body)
+    → IsBody bytes body → IsBody bytes other → body ≡ other) → Says bytes c → Says bytes other → c ≡ other
 one_reading bytes c other one says also =
     let body : c.body ≡ other.body = one bytes c.body other.body says.body also.body in
     let begins = same_time c.body.not_before c.begins other.begins says.begins (rw body also.begins) in

@@ -59,7 +59,8 @@ pub record Contents : Type 0 where
   pub points : Judged
   pub access : Judged
 
--- The bytes are a body with these contents. The key is the tree of the bits behind the number of unused ones, which is 0.
+-- The bytes are a body with these contents. The key is the tree of the bits behind the number of unused ones, which is
+-- 0.
 pub record Says (bytes : List ℕ) (c : Contents) : Type 0 where
   pub body : IsBody bytes c.body
   pub begins : IsTime c.body.not_before c.begins

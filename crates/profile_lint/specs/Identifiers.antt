@@ -41,8 +41,8 @@ name_constraints = 0x55 ∷ 0x1d ∷ 0x1e ∷ []
 -- the extensions that a body may have (BR, section 7.1.2.7.6, without those that this project does not use)
 abbrev pub allowed_extensions : List (List ℕ)
 allowed_extensions =
-    authority_key_identifier ∷ key_usage ∷ ext_key_usage ∷ subject_alt_name ∷ certificate_policies ∷ crl_distribution_points
-    ∷ authority_info_access ∷ basic_constraints ∷ name_constraints ∷ []
+    authority_key_identifier ∷ key_usage ∷ ext_key_usage ∷ subject_alt_name ∷ certificate_policies
+    ∷ crl_distribution_points ∷ authority_info_access ∷ basic_constraints ∷ name_constraints ∷ []
 
 -- purposes of a key (RFC 5280, section 4.2.1.12): id-kp-serverAuth and id-kp-clientAuth
 abbrev pub server_auth : List ℕ
@@ -59,7 +59,8 @@ domain_validated = 0x67 ∷ 0x81 ∷ 0x0c ∷ 0x01 ∷ 0x02 ∷ 0x01 ∷ []
 abbrev pub ca_issuers : List ℕ
 ca_issuers = 0x2b ∷ 0x06 ∷ 0x01 ∷ 0x05 ∷ 0x05 ∷ 0x07 ∷ 0x30 ∷ 0x02 ∷ []
 
--- the bytes of a signature's algorithm (BR, section 7.1.3.2): sha256WithRSAEncryption with NULL, ecdsa-with-SHA256, -SHA384
+-- the bytes of a signature's algorithm (BR, section 7.1.3.2): sha256WithRSAEncryption with NULL, ecdsa-with-SHA256 and
+-- ecdsa-with-SHA384
 abbrev pub signature_algorithm : SigAlg → List ℕ
 signature_algorithm RsaSha256 =
     0x30 ∷ 0x0d ∷ 0x06 ∷ 0x09 ∷ 0x2a ∷ 0x86 ∷ 0x48 ∷ 0x86 ∷ 0xf7 ∷ 0x0d ∷ 0x01 ∷ 0x01 ∷ 0x0b ∷ 0x05 ∷ 0x00 ∷ []

@@ -77,7 +77,8 @@ issuer_rows c profile =
 
 abbrev pub rows : Contents → Profile → List Rule → Moment → List (ℕ × Bool)
 rows c profile suffixes moment =
-    head_rows c profile ++ time_rows c moment ++ subject_rows c ++ key_rows c ++ name_rows c suffixes ++ usage_rows c ++ issuer_rows c profile
+    head_rows c profile ++ time_rows c moment ++ subject_rows c ++ key_rows c ++ name_rows c suffixes
+    ++ usage_rows c ++ issuer_rows c profile
 
 abbrev pub numbered : Bool → ℕ → List ℕ
 numbered true n = n ∷ []
@@ -95,7 +96,8 @@ HasNoShape bytes = (body : Body) → ¬ IsBody bytes body
 -- where L00 is broken it stands alone
 abbrev pub IsListOf : List ℕ → Profile → List Rule → Moment → List ℕ → Type 0
 IsListOf bytes profile suffixes moment list =
-    (HasNoShape bytes × (list ≡ 0 ∷ [])) ⊎ ((c : Contents) × Says bytes c × (list ≡ broken (rows c profile suffixes moment)))
+    (HasNoShape bytes × (list ≡ 0 ∷ []))
+    ⊎ ((c : Contents) × Says bytes c × (list ≡ broken (rows c profile suffixes moment)))
 
 -- ---- the same, rule by rule
 
@@ -124,6 +126,7 @@ is_rising [] = true
 is_rising (first ∷ others) = is_above first others
 
 -- the list has the numbers of the broken rules and no others, rising
-pub record IsLint (bytes : List ℕ) (profile : Profile) (suffixes : List Rule) (moment : Moment) (list : List ℕ) : Type 0 where
+pub record IsLint (bytes : List ℕ) (profile : Profile) (suffixes : List Rule) (moment : Moment) (list : List ℕ)
+    : Type 0 where
   pub exact : (n : ℕ) → Has list n ↔ IsBroken n bytes profile suffixes moment
   pub rising : IsTrue (is_rising list)

@@ -111,8 +111,10 @@ a_common_name_is_bad targets subject = list_any (is_bad_common targets) subject
 -- the kind that the algorithm's bytes name
 abbrev pub kind_of : List ℕ → Option KeyKind
 kind_of algorithm =
-    if bytes_eq algorithm (algorithm_bytes Rsa) then Some Rsa else if bytes_eq algorithm (algorithm_bytes P256) then Some P256 else
-    if bytes_eq algorithm (algorithm_bytes P384) then Some P384 else if bytes_eq algorithm (algorithm_bytes P521) then Some P521 else
+    if bytes_eq algorithm (algorithm_bytes Rsa) then Some Rsa else
+    if bytes_eq algorithm (algorithm_bytes P256) then Some P256 else
+    if bytes_eq algorithm (algorithm_bytes P384) then Some P384 else
+    if bytes_eq algorithm (algorithm_bytes P521) then Some P521 else
     None
 
 abbrev pub is_rsa : Option KeyKind → Bool
@@ -254,7 +256,8 @@ signs_and_enciphers = 0x03 ∷ 0x02 ∷ 0x05 ∷ 0xa0 ∷ []
 
 -- L25: keyUsage is there and is not digitalSignature, to which an RSA key may add keyEncipherment
 abbrev pub usage_is_wrong : Option KeyKind → Option Extension → Bool
-usage_is_wrong kind usage = is_some usage && not (has_value signs usage || (is_rsa kind && has_value signs_and_enciphers usage))
+usage_is_wrong kind usage =
+    is_some usage && not (has_value signs usage || (is_rsa kind && has_value signs_and_enciphers usage))
 
 -- ---- purposes (RFC 5280, section 4.2.1.12; BR, section 7.1.2.7.10)
 
@@ -331,7 +334,8 @@ key_identifier key_id = 0x30 ∷ 0x16 ∷ 0x80 ∷ 0x14 ∷ key_id
 
 -- L31: authorityKeyIdentifier is absent, critical, or not the profile's (RFC 5280, section 4.2.1.1)
 abbrev pub authority_key_is_bad : Option Extension → Profile → Bool
-authority_key_is_bad extension profile = absent_or_critical extension || not (has_value (key_identifier profile.key_id.0) extension)
+authority_key_is_bad extension profile =
+    absent_or_critical extension || not (has_value (key_identifier profile.key_id.0) extension)
 
 abbrev pub is_http : List ℕ → Bool
 is_http address = starts_with nat_eq address (codes "http://")
@@ -356,8 +360,8 @@ is_issuer_address (Some found) = bytes_eq found.0 identifiers.ca_issuers && is_h
 abbrev pub names_issuer : Node → Bool
 names_issuer tree = is_issuer_address (described tree)
 
--- L32: authorityInfoAccess is absent, critical, or has no address of the issuer's certificate (RFC 5280, section 4.2.2.1;
--- BR, section 7.1.2.7.7)
+-- L32: authorityInfoAccess is absent, critical, or has no address of the issuer's certificate (RFC 5280, section
+-- 4.2.2.1; BR, section 7.1.2.7.7)
 abbrev pub access_is_bad : Judged → Bool
 access_is_bad access = absent_or_critical access.extension || not (any_part names_issuer (shown access.tree))
 
@@ -374,7 +378,7 @@ abbrev pub has_http_name : Option Nodes → Bool
 has_http_name None = false
 has_http_name (Some names) = any_part is_http_name names
 
--- L33: cRLDistributionPoints is absent, critical, or its first point has no address of http (RFC 5280, section 4.2.1.13;
--- BR, section 7.1.2.11.2)
+-- L33: cRLDistributionPoints is absent, critical, or its first point has no address of http (RFC 5280, section
+-- 4.2.1.13; BR, section 7.1.2.11.2)
 abbrev pub points_are_bad : Judged → Bool
 points_are_bad points = absent_or_critical points.extension || not (has_http_name (full_name points.tree))

@@ -97,7 +97,8 @@ pub fn behind_zero(content: &[u8]) -> Option<&[u8]>
 
 /// What a body says.
 pub fn contents_of<'b, 'a>(alloc: Global, body: &'b Body<'a>) -> Result<Contents<'b, 'a>, NoMemory>
-    ensures says { IfOk result (λ contents. (bytes : _) → IsBody bytes body.now → said.Says bytes (shown.contents contents)) }
+    ensures says { IfOk result (λ contents. (bytes : _) → IsBody bytes body.now →
+        said.Says bytes (shown.contents contents)) }
     ensures body { IfOk result (λ contents. contents.body.now ≡ body.now) }
 {
     let key = reading_of(alloc, behind_zero(body.key_bits()))?;

@@ -28,7 +28,8 @@ const MOST_NAMES: usize = 100;
 
 /// The parts of a SEQUENCE.
 pub fn elements<'t, 'a>(tree: Option<&'t Tree<'a>>) -> Option<&'t [Tree<'a>]>
-    ensures { option_map (λ parts. nodes parts.now) result ≡ parts_spec.elements (option_map (λ t. node t.now) tree.entry) }
+    ensures { option_map (λ parts. nodes parts.now) result ≡
+        parts_spec.elements (option_map (λ t. node t.now) tree.entry) }
 {
     match tree {
         None => None,

@@ -3,7 +3,8 @@ use Rattle.std.proofs.Common.{◌≡◌, List, [], ◌++◌, Option, Some, None,
 use Rattle.std.proofs.lemmas.List.{append-nil}
 use Rattle.tbs_shape.specs.Shape.{joined}
 
-pub joined_step : {A : Type 0} (old new : List A) (found back : Option (List A)) → joined (Some old) found ≡ Some new → joined (Some old) (joined found back) ≡ joined (Some new) back
+pub joined_step : {A : Type 0} (old new : List A) (found back : Option (List A)) → joined (Some old) found ≡ Some new
+    → joined (Some old) (joined found back) ≡ joined (Some new) back
 joined_step old new None back e = absurd (cc e)
 joined_step old new (Some more) None e = refl
 joined_step old new (Some more) (Some others) e =

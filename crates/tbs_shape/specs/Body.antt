@@ -17,9 +17,10 @@ pub record Extension : Type 0 where
   pub critical : Bool
   pub value : List ℕ
 
--- The contents of the version and the serial number; the algorithm of the signature and the issuer, as they stand in the
--- bytes; the times; whether the subject is the empty SEQUENCE, and its attributes; the key's algorithm as it stands in the
--- bytes, and the content of the key's BIT STRING; whether a unique identifier is there; the extensions, if they are.
+-- The contents of the version and the serial number; the algorithm of the signature and the issuer, as they stand in
+-- the bytes; the times; whether the subject is the empty SEQUENCE, and its attributes; the key's algorithm as it stands
+-- in the bytes, and the content of the key's BIT STRING; whether a unique identifier is there; the extensions, if they
+-- are.
 pub record Body : Type 0 where
   pub version : Option (List ℕ)
   pub serial : List ℕ

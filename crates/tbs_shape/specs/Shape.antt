@@ -125,7 +125,9 @@ front_of parts = do
 
 -- what stands behind the key: issuerUniqueID, [1], and subjectUniqueID, [2], and the extensions
 abbrev pub back_of : Nodes → Option (Bool × Option Nodes)
-back_of parts = option_map (λ extensions. ((present_at 129 parts).0 || (present_at 130 (present_at 129 parts).1).0, extensions)) (extensions_at (present_at 130 (present_at 129 parts).1).1)
+back_of parts =
+    option_map (λ extensions. ((present_at 129 parts).0 || (present_at 130 (present_at 129 parts).1).0, extensions))
+    (extensions_at (present_at 130 (present_at 129 parts).1).1)
 
 -- the outermost parts of a body
 pub record Layout : Type 0 where

@@ -43,7 +43,8 @@ pub struct Kept<'a> {
 
 /// The version, the serial number, and the elements behind the issuer.
 fn front_of<'t, 'a>(parts: &'t [Tree<'a>]) -> Option<(Option<&'a [u8]>, &'a [u8], &'t [Tree<'a>])>
-    ensures { option_map (λ x. (option_map (λ v. v.now) x.0, x.1.now, nodes x.2.now)) result ≡ spec.front_of (nodes parts.now) }
+    ensures { option_map (λ x. (option_map (λ v. v.now) x.0, x.1.now, nodes x.2.now)) result ≡
+        spec.front_of (nodes parts.now) }
 {
     let (version, parts) = take_version(parts)?;
     let (serial, parts) = take_primitive(INTEGER, parts)?;

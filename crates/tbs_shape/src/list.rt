@@ -48,7 +48,8 @@ fn extension_of<'a>(tree: &Tree<'a>) -> Option<Extension<'a>>
 
 /// Appends an attribute.
 fn push_attribute<'a>(tree: &Tree<'a>, attributes: &mut Vec<Attribute<'a>>) -> Result<(), BodyFault>
-    ensures ok { OnOk result (joined (Some attributes.old.items) (spec.attribute_in (node tree.now)) ≡ Some attributes.new.items) }
+    ensures ok { OnOk result (joined (Some attributes.old.items) (spec.attribute_in (node tree.now)) ≡
+        Some attributes.new.items) }
     ensures err { IfErr result (λ e. IfShape e (spec.attribute_in (node tree.now) ≡ None)) }
 {
     let Some(attribute) = attribute_of(tree) else {
@@ -61,7 +62,8 @@ fn push_attribute<'a>(tree: &Tree<'a>, attributes: &mut Vec<Attribute<'a>>) -> R
 /// Appends the attributes that stand one after another.
 #[tactic(auto, using(crate::proofs::Rows::rows))]
 fn push_each<'a>(parts: &[Tree<'a>], attributes: &mut Vec<Attribute<'a>>) -> Result<(), BodyFault>
-    ensures ok { OnOk result (joined (Some attributes.old.items) (each_of spec.attribute_in (nodes parts.now)) ≡ Some attributes.new.items) }
+    ensures ok { OnOk result (joined (Some attributes.old.items) (each_of spec.attribute_in (nodes parts.now)) ≡
+        Some attributes.new.items) }
     ensures err { IfErr result (λ e. IfShape e (each_of spec.attribute_in (nodes parts.now) ≡ None)) }
 {
     let mut rest = parts;
@@ -77,7 +79,8 @@ fn push_attributes<'a>(
     tree: &Tree<'a>,
     attributes: &mut Vec<Attribute<'a>>,
 ) -> Result<(), BodyFault>
-    ensures ok { OnOk result (joined (Some attributes.old.items) (spec.attributes_in (node tree.now)) ≡ Some attributes.new.items) }
+    ensures ok { OnOk result (joined (Some attributes.old.items) (spec.attributes_in (node tree.now)) ≡
+        Some attributes.new.items) }
     ensures err { IfErr result (λ e. IfShape e (spec.attributes_in (node tree.now) ≡ None)) }
 {
     match constructed_parts(SET, tree) {
@@ -103,7 +106,8 @@ pub fn subject_of<'a>(alloc: Global, subject: &[Tree<'a>]) -> Result<Vec<Attribu
 
 /// Appends an extension.
 fn push_extension<'a>(tree: &Tree<'a>, extensions: &mut Vec<Extension<'a>>) -> Result<(), BodyFault>
-    ensures ok { OnOk result (joined (Some extensions.old.items) (spec.extension_in (node tree.now)) ≡ Some extensions.new.items) }
+    ensures ok { OnOk result (joined (Some extensions.old.items) (spec.extension_in (node tree.now)) ≡
+        Some extensions.new.items) }
     ensures err { IfErr result (λ e. IfShape e (spec.extension_in (node tree.now) ≡ None)) }
 {
     let Some(extension) = extension_of(tree) else {
@@ -135,7 +139,8 @@ pub fn extensions_of<'a>(
 ) -> Result<Option<Vec<Extension<'a>>>, BodyFault>
     ensures ok { IfOk result (λ found. spec.extensions_of (option_map (λ s. nodes s.now) parts.entry) ≡
         Some (option_map (λ extensions. extensions.items) found)) }
-    ensures err { IfErr result (λ e. IfShape e (spec.extensions_of (option_map (λ s. nodes s.now) parts.entry) ≡ None)) }
+    ensures err { IfErr result (λ e. IfShape e
+        (spec.extensions_of (option_map (λ s. nodes s.now) parts.entry) ≡ None)) }
 {
     match parts {
         Some(parts) => Ok(Some(each_extension(alloc, parts)?)),

@@ -16,7 +16,8 @@ const VERSION: u8 = 0xa0;
 
 /// The content of the version, if it is there, and the elements behind it.
 pub fn take_version<'t, 'a>(parts: &'t [Tree<'a>]) -> Option<(Option<&'a [u8]>, &'t [Tree<'a>])>
-    ensures { option_map (λ x. (option_map (λ v. v.now) x.0, nodes x.1.now)) result ≡ spec.version_at (nodes parts.now) }
+    ensures { option_map (λ x. (option_map (λ v. v.now) x.0, nodes x.1.now)) result ≡
+        spec.version_at (nodes parts.now) }
 {
     let Some((inner, others)) = take_constructed(VERSION, parts) else {
         return Some((None, parts));
