@@ -8,7 +8,9 @@ use Rattle.gate_base.specs.declared.name.Target.{Target}
 use Rattle.gate_base.specs.declared.name.Target.TheVariants.{Dns, Ip}
 use Rattle.der_text.specs.Content.{keeps_rule, is_primitive_content}
 use Rattle.der_text.specs.Tree.{element, spellings, IsElement, IsInForm, AreInForm, IsDer}
-use Rattle.tbs_build.specs.Small.{general_name, general_names, small_body_tree, IsSerial, IsShort}
+use Rattle.tbs_build.specs.Names.{general_name, general_names, IsShort}
+use Rattle.tbs_build.specs.Plan.{IsSerial}
+use Rattle.tbs_build.specs.Small.{small_body_tree}
 
 rule_of_sequence : (content : List ℕ) → IsTrue (keeps_rule 48 content)
 unfolding keeps_rule
@@ -26,7 +28,7 @@ rule_of_serial (b ∷ c ∷ rest) is =
     let high = is.1 in
     rw (ne_eqb b 0 (omega arith), ne_eqb b 255 (omega arith)) refl
 
-integer : (serial : List ℕ) → IsSerial serial → length serial ≤ 16 → IsElement 2 serial
+pub integer : (serial : List ℕ) → IsSerial serial → length serial ≤ 16 → IsElement 2 serial
 integer serial is few = record { one_byte_tag = λ e. cc e; size = omega arith; rule = rule_of_serial serial is }
 
 rule_of_text : (content : List ℕ) → IsTrue (keeps_rule 0x82 content)
@@ -54,12 +56,17 @@ unfolding AreInForm
 names_in_form [] short = tt
 names_in_form (target ∷ targets) short = (name_in_form target short.0, names_in_form targets short.1)
 
-pub small_is_der : (serial names content : List ℕ) (targets : List Target) → IsSerial serial → length serial ≤ 16 → AllByRecursion IsShort targets → names ≡ spellings (general_names targets) → length names ≤ 256 * 255 → content ≡ element 2 serial ++ element 48 names → length content ≤ 23 + 256 * 255 → IsDer (element 48 content) (small_body_tree serial targets)
+pub small_is_der : (serial names content : List ℕ) (targets : List Target) → IsSerial serial → length serial ≤ 16
+    → AllByRecursion IsShort targets → names ≡ spellings (general_names targets) → length names ≤ 256 * 255
+    → content ≡ element 2 serial ++ element 48 names → length content ≤ 23 + 256 * 255
+    → IsDer (element 48 content) (small_body_tree serial targets)
 unfolding IsInForm AreInForm
 small_is_der serial names content targets is few short named names_few contained content_few =
     let inner = spellings (general_names targets) in
-    let last : element 48 names ≡ element 48 inner ++ [] = ap (element 48) named ∙ sym (append-nil (element 48 inner)) in
-    let same : content ≡ element 2 serial ++ (element 48 inner ++ []) = contained ∙ ap (λ (n : List ℕ). element 2 serial ++ n) last in
+    let last : element 48 names ≡ element 48 inner ++ [] = ap (element 48) named
+    ∙ sym (append-nil (element 48 inner)) in
+    let same : content ≡ element 2 serial ++ (element 48 inner ++ []) = contained
+    ∙ ap (λ (n : List ℕ). element 2 serial ++ n) last in
     let names_size : length names < 2 ^ 32 = omega arith in
     let size : length content < 2 ^ 32 = omega arith in
     record {
@@ -69,7 +76,14 @@ small_is_der serial names content targets is few short named names_few contained
         sequence _ (subst (λ (c : List ℕ). length c < 2 ^ 32) same size),
         (
           (refl, integer serial is few),
-          ((refl, sequence _ (subst (λ (c : List ℕ). length c < 2 ^ 32) named names_size), names_in_form targets short), tt),
+          (
+            (
+              refl,
+              sequence _ (subst (λ (c : List ℕ). length c < 2 ^ 32) named names_size),
+              names_in_form targets short,
+            ),
+            tt,
+          ),
         ),
       );
     }

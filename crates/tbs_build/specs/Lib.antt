@@ -1,2 +1,7 @@
+pub mod Body
 pub mod Certificate
+pub mod Extension
+pub mod Names
+pub mod Plan
+pub mod Profile
 pub mod Small

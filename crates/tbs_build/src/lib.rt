@@ -2,9 +2,18 @@
 #![tactic(auto)]
 
 mod algorithm;
+mod body;
+mod element;
+mod extension;
+mod laws;
+mod names;
+mod plan;
 mod signing;
 mod small;
 
+pub use body::build;
+pub use laws::a_body_is_read;
+pub use plan::Plan;
 pub use signing::{certificate, certificate_len};
 pub use small::small_body;
 

@@ -1,0 +1,13 @@
+use Rattle.std.proofs.Common.{◌≡◌, length}
+use Rattle.der_text.specs.View.{nodes}
+use Rattle.profile_lint.specs.Parts.{any_part}
+use Rattle.profile_lint.specs.Rules.{names_issuer}
+use Rattle.profile_lint.proofs.access.has_issuer.Given as goal
+
+-- the rest decides
+abbrev pub invariant-loop-rest : goal.invariant-loop-rest
+invariant-loop-rest l =
+    any_part names_issuer (nodes l.parts) ≡ any_part names_issuer (nodes l.rest)
+
+abbrev pub decreases-loop-rest : goal.decreases-loop-rest
+decreases-loop-rest l = length l.rest

@@ -1,0 +1,12 @@
+use Rattle.std.proofs.Common.{◌≡◌, length}
+use Rattle.profile_lint.specs.Parts.{has_twice}
+use Rattle.profile_lint.specs.Names.{target_eq}
+use Rattle.profile_lint.proofs.names.has_twice.Given as goal
+
+-- the rest decides
+abbrev pub invariant-loop-rest : goal.invariant-loop-rest
+invariant-loop-rest l =
+    has_twice target_eq l.targets ≡ has_twice target_eq l.rest
+
+abbrev pub decreases-loop-rest : goal.decreases-loop-rest
+decreases-loop-rest l = length l.rest

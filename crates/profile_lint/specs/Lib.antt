@@ -1,0 +1,7 @@
+pub mod Identifiers
+pub mod Parts
+pub mod Contents
+pub mod Names
+pub mod Rules
+pub mod Lint
+pub mod View

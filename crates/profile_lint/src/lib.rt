@@ -1,0 +1,22 @@
+//! Which rules of the profile any bytes break, as the body of a certificate.
+#![tactic(auto)]
+
+mod access;
+mod contents;
+mod extension;
+mod front;
+mod identifiers;
+mod key;
+mod laws;
+mod lint;
+mod names;
+mod number;
+mod subject;
+mod usage;
+mod validity;
+
+pub use laws::one_reading;
+pub use lint::lint_body;
+
+#[cfg(test)]
+mod tests;

@@ -1,0 +1,4 @@
+pub mod Body
+pub mod Shape
+pub mod Told
+pub mod View
