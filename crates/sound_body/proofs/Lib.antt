@@ -1,3 +1,7 @@
 mod Trees
 mod Said
--- mod Rules
+mod Contents
+mod Lists
+mod Keys
+mod Values
+mod Rules
