@@ -1,14 +1,13 @@
 -- What the rules look at in the body of a sound plan: its times, and its extensions with the trees of their values.
-use Rattle.std.proofs.Common.{◌≡◌, ℕ, ◌≤◌, ℤ, pos, Bool, List, Some, None, refl, subst, ◌∙◌, arith}
+use Rattle.std.proofs.Common.{◌≡◌, ℕ, pos, List, Some, None, refl, ◌∙◌}
 use Rattle.std.specs.List.{AllByRecursion}
-use Rattle.der_text.specs.Tree.{Node, spelling, IsDer}
-use Rattle.cert_time.specs.Time.{time_of, tag_of, text_of, IsTimeText}
+use Rattle.der_text.specs.Tree.{spelling}
 use Rattle.tbs_build.specs.Body.{body_of}
 use Rattle.tbs_build.specs.Extension.{Extension as Built, authority_key_identifier, key_usage, extended_key_usage, subject_alt_name, certificate_policies, crl_distribution_points, authority_info_access, extensions_of, IsSpelled}
-use Rattle.tbs_build.specs.Plan.{Plan, IsSound}
+use Rattle.tbs_build.specs.Plan.{Plan}
 use Rattle.tbs_shape.specs.Body.{Body}
 use Rattle.profile_lint.specs.Identifiers as identifiers
-use Rattle.profile_lint.specs.Contents.{extension_named, value_of, IsReadingOf, Judged, IsJudged, Contents, Says}
+use Rattle.profile_lint.specs.Contents.{extension_named, IsReadingOf, Judged, IsJudged, Contents, Says}
 use Rattle.sound_body.specs.Said.{extension_read, SaysPlan}
 
 -- the judged extension is this one, and so is its value

@@ -1,5 +1,5 @@
 -- The rules on the serial number, the algorithms, the times, the subject and the key.
-use Rattle.std.proofs.Common.{◌≡◌, ℕ, ◌≤◌, pos, int_lt, Bool, true, false, not, if◌then◌else◌, IsTrue, List, [], ◌∷◌, length, bytes_eq, Option, Some, None, refl, ap, ◌∙◌, arith}
+use Rattle.std.proofs.Common.{◌≡◌, ℕ, ◌≤◌, pos, int_lt, Bool, true, false, not, if◌then◌else◌, IsTrue, List, [], ◌∷◌, length, bytes_eq, Option, Some, refl, ap, ◌∙◌, arith}
 use Rattle.std.proofs.lemmas.Bool.{and_parts}
 use Rattle.std.proofs.lemmas.Slice.Eq.{bytes_eq-Decides}
 use Rattle.gate_base.specs.declared.profile.KeyKind.{KeyKind}

@@ -5,3 +5,4 @@ mod Lists
 mod Keys
 mod Values
 mod Rules
+mod ShortestName

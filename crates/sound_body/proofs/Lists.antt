@@ -1,5 +1,5 @@
 -- Rows of rules of which each may be broken or is not.
-use Rattle.std.proofs.Common.{◌≡◌, ◌⊎◌, inl, inr, ℕ, Bool, true, false, List, [], ◌∷◌, ◌++◌, refl, subst}
+use Rattle.std.proofs.Common.{◌≡◌, inl, inr, ℕ, Bool, true, false, List, [], ◌∷◌, ◌++◌, refl, subst}
 use Rattle.std.specs.List.{AllByRecursion}
 use Rattle.profile_lint.specs.Lint.{Has, HasBroken}
 use Rattle.sound_body.specs.Rules.{CanBeBroken}

@@ -1,5 +1,5 @@
 -- Each rule on the contents of a sound plan's body.
-use Rattle.std.proofs.Common.{◌≡◌, ◌⊎◌, inl, inr, ℕ, Bool, true, false, not, List, [], ◌∷◌, Option, Some, refl, ap, ap₂, subst, ◌∙◌}
+use Rattle.std.proofs.Common.{◌≡◌, inl, inr, ℕ, Bool, false, not, List, Option, Some, refl, ap, ap₂, ◌∙◌}
 use Rattle.std.specs.List.{AllByRecursion}
 use Rattle.gate_base.specs.declared.moment.Moment.{Moment}
 use Rattle.gate_base.specs.declared.profile.KeyKind.{KeyKind}
@@ -10,7 +10,7 @@ use Rattle.tbs_build.specs.Extension.{Extension as Built, extensions_of, IsSpell
 use Rattle.tbs_build.specs.Plan.{Plan, IsSound}
 use Rattle.tbs_shape.specs.Body.{Body, Extension}
 use Rattle.tbs_shape.specs.Shape.{IsBody}
-use Rattle.profile_lint.specs.Contents.{Contents, Judged, IsReading, IsReadingOf, Says}
+use Rattle.profile_lint.specs.Contents.{Contents, Judged, IsReading, IsReadingOf}
 use Rattle.profile_lint.specs.Lint.{IsBroken, head_rows, time_rows, subject_rows, key_rows, name_rows, usage_rows, issuer_rows, rows}
 use Rattle.profile_lint.specs.Rules as rules
 use Rattle.sound_body.specs.Rules.{HasItsOctets, CanBeBroken}
@@ -40,10 +40,10 @@ module _ (plan : Plan) (sound : IsSound plan) (octets : AllByRecursion HasItsOct
       kept (ap rules.serial_is_bad is.body.serial ∙ serial_is_kept plan.serial sound.serial sound.serial_size),
       (
         kept (ap (λ (a : List ℕ). rules.algorithm_is_bad a plan.profile) is.body.algorithm
-        ∙ algorithm_is_kept plan.profile.alg),
+            ∙ algorithm_is_kept plan.profile.alg),
         (
           kept (ap (λ (i : List ℕ). rules.issuer_is_bad i plan.profile) is.body.issuer
-          ∙ ap not (same_bytes plan.profile.issuer)),
+              ∙ ap not (same_bytes plan.profile.issuer)),
           tt,
         ),
       ),
@@ -82,13 +82,13 @@ module _ (plan : Plan) (sound : IsSound plan) (octets : AllByRecursion HasItsOct
     kept (ap rules.key_algorithm_is_bad kind),
     (
       kept (ap (λ (k : Option KeyKind). rules.modulus_is_bad k c.key) kind
-      ∙ modulus_is_kept plan.kind is.body.bits c.key is.body.good_bits bits_read),
+          ∙ modulus_is_kept plan.kind is.body.bits c.key is.body.good_bits bits_read),
       (
         kept (ap (λ (k : Option KeyKind). rules.exponent_is_bad k c.key) kind
-        ∙ exponent_is_kept plan.kind is.body.bits c.key is.body.good_bits bits_read),
+            ∙ exponent_is_kept plan.kind is.body.bits c.key is.body.good_bits bits_read),
         (
           kept (ap₂ rules.point_is_bad kind is.body.key_bits
-          ∙ point_is_kept plan.kind is.body.bits is.body.good_bits),
+              ∙ point_is_kept plan.kind is.body.bits is.body.good_bits),
           tt,
         ),
       ),
@@ -105,7 +105,7 @@ module _ (plan : Plan) (sound : IsSound plan) (octets : AllByRecursion HasItsOct
         kept (asked rules.names_are_absent c.names _ is.names refl),
         (
           kept (asked rules.names_are_bad c.names _ is.names
-          (names_are_kept plan.common plan.targets sound.some octets)),
+              (names_are_kept plan.common plan.targets sound.some octets)),
           (
             λ broken. refl,
             (
@@ -114,7 +114,7 @@ module _ (plan : Plan) (sound : IsSound plan) (octets : AllByRecursion HasItsOct
                 λ broken. refl,
                 (
                   kept (ap₂ rules.names_are_wrongly_critical is.names.extension is.body.subject_is_empty
-                  ∙ critical_is_kept plan.common),
+                      ∙ critical_is_kept plan.common),
                   tt,
                 ),
               ),
@@ -150,8 +150,8 @@ module _ (plan : Plan) (sound : IsSound plan) (octets : AllByRecursion HasItsOct
     kept (ap rules.names_are_constrained (no_name_constraints plan c.body is.body)),
     (
       kept (ap (λ (e : Option Extension). rules.authority_key_is_bad e plan.profile)
-      (key_identifier_named plan c.body is.body)
-      ∙ key_identifier_is_kept plan.profile.key_id.0 sound.profile.key_id),
+          (key_identifier_named plan c.body is.body)
+          ∙ key_identifier_is_kept plan.profile.key_id.0 sound.profile.key_id),
       (
         kept (asked rules.access_is_bad c.access _ is.access (access_is_kept plan.profile.aia sound.profile.aia)),
         (
@@ -171,16 +171,16 @@ module _ (plan : Plan) (sound : IsSound plan) (octets : AllByRecursion HasItsOct
       let usage = all_fine _ (usage_rows c) names usage_is_fine in
       all_fine _ (issuer_rows c plan.profile) usage issuer_is_fine
 
-pub can_be_broken : ((plan : Plan) → IsSound plan → (body : Body) × IsBody (body_of plan) body)
+pub broken_by_a_sound_body : ((plan : Plan) → IsSound plan → (body : Body) × IsBody (body_of plan) body)
     → ((plan : Plan) (body : Body) → IsSound plan → IsBody (body_of plan) body → SaysPlan plan body)
     → ((plan : Plan) → IsSound plan → AllByRecursion IsSpelled (extensions_of plan))
     → (plan : Plan) (suffixes : List Rule) (moment : Moment) (rule : ℕ) → IsSound plan
     → AllByRecursion HasItsOctets plan.targets → IsBroken rule (body_of plan) plan.profile suffixes moment
     → CanBeBroken rule
-can_be_broken shape says values plan suffixes moment rule sound octets (inl shapeless) =
+broken_by_a_sound_body shape says values plan suffixes moment rule sound octets (inl shapeless) =
     let body = shape plan sound in
     absurd (shapeless.1 body.0 body.1)
-can_be_broken shape says values plan suffixes moment rule sound octets (inr judged) =
+broken_by_a_sound_body shape says values plan suffixes moment rule sound octets (inr judged) =
     let contents = judged.1 in
     let body = says plan judged.0.body sound contents.body in
     let is = are_of_plan plan judged.0 body (values plan sound) contents in

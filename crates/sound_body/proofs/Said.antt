@@ -1,11 +1,11 @@
 -- What is read of the body of a sound plan.
-use Rattle.std.proofs.Common.{◌≡◌, ℕ, ◌≤◌, Bool, true, false, not, List, [], ◌∷◌, ◌++◌, map, Some, pos, refl, sym, ap, subst, ◌∙◌, arith}
+use Rattle.std.proofs.Common.{◌≡◌, ℕ, ◌≤◌, Bool, true, false, not, List, [], ◌∷◌, map, Some, pos, refl, sym, ap, ◌∙◌, arith}
 use Rattle.gate_base.specs.declared.profile.KeyKind.{KeyKind}
 use Rattle.gate_base.specs.declared.profile.KeyKind.TheVariants.{Rsa, P256, P384, P521}
 use Rattle.gate_base.specs.declared.profile.SigAlg.{SigAlg}
 use Rattle.gate_base.specs.declared.profile.SigAlg.TheVariants.{RsaSha256, EcdsaSha256, EcdsaSha384}
-use Rattle.der_text.specs.Tree.{Node, primitive, constructed, Nodes, no_nodes, also, length_octets, spelling, spellings, IsInForm, AreInForm, IsDer}
-use Rattle.public_key.specs.Key.{key_tree, IsKeyOf, AreBitsOf, algorithm_bytes as key_algorithm_bytes}
+use Rattle.der_text.specs.Tree.{Node, constructed, Nodes, length_octets, spelling, IsInForm, AreInForm, IsDer}
+use Rattle.public_key.specs.Key.{key_tree, AreBitsOf, algorithm_bytes as key_algorithm_bytes}
 use Rattle.cert_time.specs.Time.{time_of, tag_of, text_of, IsTimeText}
 use Rattle.tbs_build.specs.Body.{algorithm_tree, body_of, body_tree, IsBodyTree}
 use Rattle.tbs_build.specs.Certificate.{algorithm_bytes}
@@ -123,8 +123,7 @@ module _ (one_tree : (bytes : List ℕ) (tree other : Node) → IsDer bytes tree
   pub has_shape : (plan : Plan) (tree : Node) → IsSound plan → IsDer (body_of plan) tree → IsBodyTree plan tree
       → (body : Body) × IsBody (body_of plan) body
   has_shape plan tree sound der parts =
-      let is = tree_of plan tree sound der parts in
-      (
+      let is = tree_of plan tree sound der parts in (
         body_read plan is.issuer is.algorithm is.bits,
         record { tree = tree; spelled = der; says = read_of plan tree is },
       )

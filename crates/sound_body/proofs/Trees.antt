@@ -1,5 +1,5 @@
 -- Trees in the form of DER: which of them are sequences, and that a form of few levels is one of more.
-use Rattle.std.proofs.Common.{◌≡◌, ℕ, zero, suc, List, ◌∷◌, false, refl, sym, ap}
+use Rattle.std.proofs.Common.{◌≡◌, ℕ, zero, suc, List, ◌∷◌, false, ap}
 use Rattle.der_text.specs.Content.{is_constructed}
 use Rattle.der_text.specs.Tree.{Node, primitive, constructed, Nodes, no_nodes, also, spelling, IsInForm, AreInForm}
 

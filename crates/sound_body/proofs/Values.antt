@@ -1,5 +1,5 @@
 -- The rules on the values of extensions.
-use Rattle.std.proofs.Common.{◌≡◌, ℕ, ◌≤◌, Bool, true, false, not, ◌||◌, ◌&&◌, IsTrue, List, [], ◌∷◌, ◌++◌, length, length-append, bytes_eq, Some, is_some, refl, sym, ap, ◌∙◌, arith}
+use Rattle.std.proofs.Common.{◌≡◌, ℕ, ◌≤◌, Bool, true, false, not, IsTrue, List, [], ◌∷◌, ◌++◌, length, bytes_eq, Some, refl, ap, ◌∙◌, arith}
 use Rattle.std.proofs.lemmas.Bool.{and_parts}
 use Rattle.std.proofs.lemmas.List.{append-nil}
 use Rattle.std.specs.List.{AllByRecursion}
@@ -8,7 +8,7 @@ use Rattle.gate_base.specs.declared.name.Target.{Target}
 use Rattle.gate_base.specs.declared.name.Target.TheVariants.{Dns, Ip}
 use Rattle.gate_base.specs.declared.profile.KeyKind.{KeyKind}
 use Rattle.gate_base.specs.declared.profile.KeyKind.TheVariants.{Rsa, P256, P384, P521}
-use Rattle.der_text.specs.Tree.{constructed, length_octets, element, spelling}
+use Rattle.der_text.specs.Tree.{length_octets, element, spelling}
 use Rattle.public_key.specs.Parts.{are_none}
 use Rattle.tbs_build.specs.Extension.{Extension as Built, authority_key_identifier, key_usage, extended_key_usage, subject_alt_name, certificate_policies, crl_distribution_points, authority_info_access}
 use Rattle.tbs_build.specs.Names.{general_names}

@@ -1,5 +1,5 @@
 -- What is read of the body of a plan, by the reader that the rules stand on. The sections are those of RFC 5280.
-use Rattle.std.specs.Prelude.{◌≡◌, ℕ, pos, Bool, not, false, List, [], ◌∷◌, Some, map, if◌then◌else◌}
+use Rattle.std.specs.Prelude.{◌≡◌, ℕ, pos, not, false, List, [], ◌∷◌, Some, map, if◌then◌else◌}
 use Rattle.der_text.specs.Tree.{spelling}
 use Rattle.public_key.specs.Key.{AreBitsOf, algorithm_bytes as key_algorithm_bytes}
 use Rattle.cert_time.specs.Time.{IsTimeText}

@@ -24,9 +24,9 @@ pub fn a_sound_body_says_its_plan()
     times_are_read_again();
 }
 
-/// The lint of a sound plan's body by the plan's profile, whatever the public suffixes and the moment are, has numbers of
-/// L07, L11, L20, L21, L22 and L34 alone: no other rule is broken. The plan's addresses have the octets of their family,
-/// as their type says.
+/// The lint of a sound plan's body by the plan's profile, whatever the public suffixes are and at any moment, has numbers
+/// of L07, L11, L20, L21, L22 and L34 alone: no other rule is broken. Each address has the octets of its family, which a
+/// clause can't see of an array.
 pub fn the_lint_of_a_sound_body()
     // Each broken rule is one of these,
     ensures rules { (plan : Plan) (suffixes : List Rule) (moment : Moment) (rule : ℕ) → IsSound plan

@@ -4,3 +4,6 @@
 mod laws;
 
 pub use laws::{a_sound_body_says_its_plan, the_lint_of_a_sound_body};
+
+#[cfg(test)]
+mod tests;
