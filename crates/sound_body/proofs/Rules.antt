@@ -25,7 +25,8 @@ abbrev again : Judged → Judged
 again judged = record { extension = judged.extension; tree = judged.tree }
 
 -- a question to an extension that is there is the question to what was built
-asked : (bad : Judged → Bool) (judged : Judged) (e : Built) → IsOf judged e → bad (judged_of e) ≡ false → bad judged ≡ false
+asked : (bad : Judged → Bool) (judged : Judged) (e : Built) → IsOf judged e → bad (judged_of e) ≡ false
+    → bad judged ≡ false
 asked bad judged e is fine =
     let same : again judged ≡ judged_of e = cc (is.extension, is.tree) in
     ap bad same ∙ fine
@@ -162,7 +163,8 @@ module _ (plan : Plan) (sound : IsSound plan) (octets : AllByRecursion HasItsOct
     ),
   )
 
-  pub rows_are_fine : (suffixes : List Rule) (moment : Moment) → AllByRecursion Fine (rows c plan.profile suffixes moment)
+  pub rows_are_fine : (suffixes : List Rule) (moment : Moment)
+      → AllByRecursion Fine (rows c plan.profile suffixes moment)
   rows_are_fine suffixes moment =
       let times = all_fine (head_rows c plan.profile) (time_rows c moment) head_is_fine (times_are_fine moment) in
       let subject = all_fine _ (subject_rows c) times subject_is_fine in

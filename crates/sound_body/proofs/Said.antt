@@ -100,11 +100,14 @@ module _ (one_tree : (bytes : List ℕ) (tree other : Node) → IsDer bytes tree
       let issuer = is_sequence 31 parts.issuer _ (issuer_form plan parts.issuer parts.key form)
       (parts.issuer_spelled ∙ sound.profile.issuer.spelled) in
       let key : parts.key ≡ key_tree sound.key.algorithm sound.key.bits = one_tree plan.spki _ _
-      (record { spelled = sym parts.key_spelled; form = deeper 31 parts.key (key_form plan parts.issuer parts.key form) })
+      (record {
+        spelled = sym parts.key_spelled;
+        form = deeper 31 parts.key (key_form plan parts.issuer parts.key form);
+      })
       sound.key.spelled in
       let named = sequence_first plan.kind in
-      let algorithm = is_sequence 31 sound.key.algorithm named.0 (algorithm_form sound.key.algorithm sound.key.bits sound.key.spelled.form)
-      (sound.key.named ∙ named.1) in
+      let algorithm = is_sequence 31 sound.key.algorithm named.0
+      (algorithm_form sound.key.algorithm sound.key.bits sound.key.spelled.form) (sound.key.named ∙ named.1) in
       record {
         issuer = issuer.0;
         issuer_spelled = ap spelling (sym issuer.1) ∙ parts.issuer_spelled;
@@ -113,12 +116,15 @@ module _ (one_tree : (bytes : List ℕ) (tree other : Node) → IsDer bytes tree
         bits = sound.key.bits;
         good = sound.key.good;
         is = parts.is ∙ ap (λ (n : Node). body_tree plan n parts.key) issuer.1
-            ∙ ap (λ (n : Node). body_tree plan (constructed 48 issuer.0) n) (key ∙ ap (λ (n : Node). key_tree n sound.key.bits) algorithm.1);
+            ∙ ap (λ (n : Node). body_tree plan (constructed 48 issuer.0) n)
+            (key ∙ ap (λ (n : Node). key_tree n sound.key.bits) algorithm.1);
       }
 
   read_of : (plan : Plan) (tree : Node) (is : IsTreeOf plan tree)
       → shape.body_of tree ≡ Some (body_read plan is.issuer is.algorithm is.bits)
-  read_of plan tree is = ap shape.body_of is.is ∙ body_is_read plan is.issuer is.algorithm is.bits plan.common plan.profile.alg refl refl
+  read_of plan tree is =
+      ap shape.body_of is.is
+      ∙ body_is_read plan is.issuer is.algorithm is.bits plan.common plan.profile.alg refl refl
 
   pub has_shape : (plan : Plan) (tree : Node) → IsSound plan → IsDer (body_of plan) tree → IsBodyTree plan tree
       → (body : Body) × IsBody (body_of plan) body
@@ -128,11 +134,12 @@ module _ (one_tree : (bytes : List ℕ) (tree other : Node) → IsDer bytes tree
         record { tree = tree; spelled = der; says = read_of plan tree is },
       )
 
-  pub says_plan : (plan : Plan) (body : Body) (is_body : IsBody (body_of plan) body) → IsSound plan → IsBodyTree plan is_body.tree
-      → SaysPlan plan body
+  pub says_plan : (plan : Plan) (body : Body) (is_body : IsBody (body_of plan) body) → IsSound plan
+      → IsBodyTree plan is_body.tree → SaysPlan plan body
   says_plan plan body is_body sound parts =
       let is = tree_of plan is_body.tree sound is_body.spelled parts in
-      let same : body ≡ body_read plan is.issuer is.algorithm is.bits = unwrapped (sym is_body.says ∙ read_of plan is_body.tree is) in
+      let same : body ≡ body_read plan is.issuer is.algorithm is.bits = unwrapped
+      (sym is_body.says ∙ read_of plan is_body.tree is) in
       rw same record {
         version = refl;
         serial = refl;

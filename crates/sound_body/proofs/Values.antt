@@ -80,7 +80,8 @@ key_identifier_spelled key_id size =
     ap (element 48) inner ∙ rw outer refl
 
 pub key_identifier_is_kept : (key_id : List ℕ) → length key_id ≡ 20
-    → not (rules.has_value (rules.key_identifier key_id) (Some (extension_read (authority_key_identifier key_id)))) ≡ false
+    → not (rules.has_value (rules.key_identifier key_id) (Some (extension_read (authority_key_identifier key_id))))
+    ≡ false
 key_identifier_is_kept key_id size =
     ap (λ (value : List ℕ). not (bytes_eq value (rules.key_identifier key_id))) (key_identifier_spelled key_id size)
     ∙ ap not (same_bytes (rules.key_identifier key_id))

@@ -4,8 +4,8 @@ use Rattle.gate_base.specs.declared.name.Address.TheVariants.{V4, V6}
 use Rattle.gate_base.specs.declared.name.Target.{Target}
 use Rattle.gate_base.specs.declared.name.Target.TheVariants.{Dns, Ip}
 
--- An address has the octets of its family, four or sixteen (RFC 5280, section 4.2.1.6). In the program its type says so;
--- here they are a list.
+-- An address has the octets of its family, four or sixteen (RFC 5280, section 4.2.1.6). In the program its type says
+-- so; here they are a list.
 abbrev pub HasItsOctets : Target → Type 0
 HasItsOctets (Dns name) = Unit {0}
 HasItsOctets (Ip (V4 octets)) = length octets ≡ 4

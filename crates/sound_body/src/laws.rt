@@ -14,7 +14,8 @@ use cert_time::times_are_read_again;
 use der_text::what_is_spelled_is_read;
 use tbs_build::a_body_is_read;
 
-/// The body of a sound plan has the shape of a body (RFC 5280, section 4.1), and what is read of it is what the plan says.
+/// The body of a sound plan has the shape of a body (RFC 5280, section 4.1), and what is read of it is what the plan
+/// says.
 pub fn a_sound_body_says_its_plan()
     ensures shape { (plan : Plan) → IsSound plan → (body : Said) × IsBody (body_of plan) body }
     ensures says { (plan : Plan) (body : Said) → IsSound plan → IsBody (body_of plan) body → SaysPlan plan body }
@@ -24,9 +25,9 @@ pub fn a_sound_body_says_its_plan()
     times_are_read_again();
 }
 
-/// The lint of a sound plan's body by the plan's profile, whatever the public suffixes are and at any moment, has numbers
-/// of L07, L11, L20, L21, L22 and L34 alone: no other rule is broken. Each address has the octets of its family, which a
-/// clause can't see of an array.
+/// The lint of a sound plan's body by the plan's profile, whatever the public suffixes are and at any moment, has
+/// numbers of L07, L11, L20, L21, L22 and L34 alone: no other rule is broken. Each address has the octets of its
+/// family, which a clause can't see of an array.
 pub fn the_lint_of_a_sound_body()
     // Each broken rule is one of these,
     ensures rules { (plan : Plan) (suffixes : List Rule) (moment : Moment) (rule : ℕ) → IsSound plan
