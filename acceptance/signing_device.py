@@ -20,11 +20,12 @@ class SigningDevice:
     """Serves one connection after another within a `with`; each brings one body.
 
     `signer` is the program's word for it, and `bodies` are all that it got, in their order. It closes without an answer
-    at the first `drops` bodies. Where `size` is given, an answer has that length and as many zero bytes.
+    at the first `drops` bodies. Where `size` is given, an answer has that length and as many zero bytes. `holding` is
+    called with each body while the device holds it, before it answers or closes.
     """
 
-    def __init__(self, secret=b"", drops=0, size=None, port=0):
-        self.secret, self.drops, self.size, self.bodies = secret, drops, size, []
+    def __init__(self, secret=b"", drops=0, size=None, port=0, holding=lambda body: None):
+        self.secret, self.drops, self.size, self.holding, self.bodies = secret, drops, size, holding, []
         self.listener = socket.create_server(("127.0.0.1", port))
         self.signer = f"loopback:{self.listener.getsockname()[1]}"
         self.thread = threading.Thread(target=self.serve, daemon=True)
@@ -58,6 +59,7 @@ class SigningDevice:
         with connection.makefile("rb") as stream:
             body = receive(stream, int.from_bytes(receive(stream, 4), "big"))
         self.bodies.append(body)
+        self.holding(body)
         if len(self.bodies) > self.drops:
             reply = self.signature(body) if self.size is None else bytes(self.size)
             connection.sendall(len(reply).to_bytes(2, "big") + reply)

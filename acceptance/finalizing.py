@@ -1,0 +1,101 @@
+"""What the finalizing of an order leads to, by docs/FORMATS.md: bodies, certificates, replies and entries."""
+
+import base64
+import dataclasses
+
+from gate_program import HEAD, Wrong, check, records_of, reply
+
+SETTINGS, ORDERED, SENT, SIGNED = 1, 2, 6, 7
+ECDSA_SHA256 = bytes.fromhex("300a06082a8648ce3d040302")
+
+NO_SUCH_ORDER = reply("404 Not Found", '{"reply":"no_such_order"}')
+SIGNER_FAULT = reply("503 Service Unavailable", '{"reply":"signer_fault"}')
+
+
+def finalize(number):
+    """The message that has an order finalized, of a number or a text of digits."""
+    return f"POST /orders/{number}/finalize HTTP/1.1\r\nhost: gate\r\nx-gate-key: acme-token\r\n\r\n".encode()
+
+
+def element(tag, content):
+    """A tag, the shortest length (X.690, section 10.1) and the content."""
+    size = len(content)
+    octets = size.to_bytes((size.bit_length() + 7) // 8, "big")
+    length = bytes([size]) if size < 128 else bytes([0x80 + len(octets)]) + octets
+    return bytes([tag]) + length + content
+
+
+def names_part(names):
+    """A SEQUENCE of the names (RFC 5280, section 4.2.1.6)."""
+    return element(0x30, b"".join(element(0x82, name.encode()) for name in names))
+
+
+def small_body(serial, names):
+    """A SEQUENCE of the serial number and the names."""
+    return element(0x30, element(0x02, serial) + names_part(names))
+
+
+def serial_of(body, names):
+    """The serial number of a body for these names: sixteen bytes, the first one of 40 to 7f."""
+    serial = body[: -len(names_part(names))][-16:]
+    check("the body", small_body(serial, names).hex(), body.hex())
+    check(f"the first byte of the serial number {serial.hex()} is one of 40 to 7f", True, 0x40 <= serial[0] <= 0x7F)
+    return serial
+
+
+def certificate_of(body, signature):
+    """A SEQUENCE of the body, the algorithm and the signature in a BIT STRING (RFC 5280, section 4.1)."""
+    return element(0x30, body + ECDSA_SHA256 + element(0x03, b"\x00" + signature))
+
+
+def issued(number, serial, certificate):
+    encoded = base64.b64encode(certificate).decode()
+    members = f'"certificate":"{encoded}","order":{number},"reply":"issued","serial":"{serial.hex()}"'
+    return reply("200 OK", "{" + members + "}")
+
+
+@dataclasses.dataclass(frozen=True)
+class Entry:
+    """An entry's fields; of one that was sent or signed, its order and its body or signature."""
+
+    kind: int
+    number: int
+    moment: int
+    caller: bytes
+    order: int = 0
+    content: bytes = b""
+
+    def record(self):
+        """The record of an entry that was sent or signed."""
+        payload = self.kind.to_bytes(1, "big") + self.number.to_bytes(8, "big") + self.moment.to_bytes(8, "big")
+        payload += len(self.caller).to_bytes(2, "big") + self.caller
+        payload += self.order.to_bytes(8, "big") + len(self.content).to_bytes(2, "big") + self.content
+        return len(payload).to_bytes(4, "big") + payload
+
+
+def entry_of(payload):
+    size = int.from_bytes(payload[17:19], "big")
+    caller, rest = payload[19 : 19 + size], payload[19 + size :]
+    kind, number, moment = payload[0], int.from_bytes(payload[1:9], "big"), int.from_bytes(payload[9:17], "big")
+    if kind not in (SENT, SIGNED):
+        return Entry(kind, number, moment, caller)
+    content = rest[10:]
+    check("the bytes behind the count of a body or a signature", int.from_bytes(rest[8:10], "big"), len(content))
+    return Entry(kind, number, moment, caller, int.from_bytes(rest[:8], "big"), content)
+
+
+def entries_of(written):
+    """The entries of a journal's bytes; each has its place as its number, and no moment is before the last one."""
+    payloads = records_of(written)
+    if payloads is None:
+        raise Wrong(f"{len(written)} bytes are no journal")
+    entries = [entry_of(payload) for payload in payloads]
+    check("the entries' numbers", list(range(1, len(entries) + 1)), [entry.number for entry in entries])
+    check("the entries' moments", sorted(entry.moment for entry in entries), [entry.moment for entry in entries])
+    return entries
+
+
+def journal_with(written, count, *entries):
+    """The journal's first records, so many, and behind them these entries."""
+    kept = [len(payload).to_bytes(4, "big") + payload for payload in records_of(written)[:count]]
+    return HEAD + b"".join(kept + [entry.record() for entry in entries])
