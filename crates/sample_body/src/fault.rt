@@ -1,3 +1,7 @@
+ghost use Rattle.std.specs.Prelude.{◌≡◌};
+ghost use Rattle.sample_body.specs.Sample.{IsFromRequest};
+ghost use Rattle.sample_body.specs.declared.fault.Fault.TheVariants as faults;
+
 use csr10::CsrFault;
 use gate_base::NoMemory;
 use std::alloc::{AllocError, AllocFailed};
@@ -56,6 +60,8 @@ impl fmt::Display for Fault {
 }
 
 impl From<CsrFault> for Fault {
+    ghost from_gives = { λ fault e. IsFromRequest fault e };
+
     fn from(fault: CsrFault) -> Fault {
         match fault {
             CsrFault::NoMemory => Fault::NoMemory,
@@ -71,18 +77,24 @@ impl From<io::Error> for Fault {
 }
 
 impl From<NoMemory> for Fault {
+    ghost from_gives = { λ _ e. e ≡ faults.NoMemory };
+
     fn from(_: NoMemory) -> Fault {
         Fault::NoMemory
     }
 }
 
 impl From<AllocError> for Fault {
+    ghost from_gives = { λ _ e. e ≡ faults.NoMemory };
+
     fn from(_: AllocError) -> Fault {
         Fault::NoMemory
     }
 }
 
 impl<T: Drop> From<AllocFailed<T>> for Fault {
+    ghost from_gives = { λ _ e. e ≡ faults.NoMemory };
+
     fn from(_: AllocFailed<T>) -> Fault {
         Fault::NoMemory
     }

@@ -1,9 +1,9 @@
 //! Whether names can stand in a certificate.
-ghost use Rattle.std.specs.Prelude.{◌≡◌, ◌≤◌, length, IsTrue, IfOk, OnOk};
+ghost use Rattle.std.specs.Prelude.{◌≡◌, ◌≤◌, ◌↔◌, length, IsTrue, IfOk, IfErr, OnOk};
 ghost use Rattle.std.specs.List.{AllByRecursion};
 ghost use Rattle.tbs_build.specs.Names.{IsShort};
 ghost use Rattle.tbs_build.specs.Plan as spec;
-ghost use Rattle.sample_body.specs.Sample.{CanStand};
+ghost use Rattle.sample_body.specs.Sample.{CanStand, IsNamesFault};
 
 use crate::fault::Fault;
 use gate_base::{Address, NoMemory, Target};
@@ -14,13 +14,13 @@ use std::alloc::Global;
 const LONGEST_NAME: usize = 253;
 
 fn has_room_for(text: &[u8]) -> bool
-    ensures { IsTrue result → length text.now ≤ 253 }
+    ensures { IsTrue result ↔ (length text.now ≤ 253) }
 {
     text.len() <= LONGEST_NAME
 }
 
 fn is_short(alloc: Global, target: &Target) -> Result<bool, NoMemory>
-    ensures { IfOk result (λ short. IsTrue short → IsShort target.now) }
+    ensures { IfOk result (λ short. IsTrue short ↔ IsShort target.now) }
 {
     match target {
         Target::Dns(_) => {
@@ -34,7 +34,7 @@ fn is_short(alloc: Global, target: &Target) -> Result<bool, NoMemory>
 }
 
 fn are_short(alloc: Global, targets: &[Target]) -> Result<bool, NoMemory>
-    ensures { IfOk result (λ short. IsTrue short → AllByRecursion IsShort targets.now) }
+    ensures { IfOk result (λ short. IsTrue short ↔ AllByRecursion IsShort targets.now) }
 {
     let mut rest = targets;
     while let [first, others @ ..] = rest {
@@ -47,7 +47,7 @@ fn are_short(alloc: Global, targets: &[Target]) -> Result<bool, NoMemory>
 }
 
 fn begins_with_name(targets: &[Target]) -> bool
-    ensures { IsTrue result → IsTrue (spec.begins_with_name targets.now) }
+    ensures { result ≡ spec.begins_with_name targets.now }
 {
     match targets {
         [Target::Dns(_), ..] => true,
@@ -58,7 +58,8 @@ fn begins_with_name(targets: &[Target]) -> bool
 
 /// Passes names that can stand in a certificate, the first of them as a commonName where one is wanted.
 pub fn check_names(alloc: Global, common: bool, targets: &[Target]) -> Result<(), Fault>
-    ensures { OnOk result (CanStand common targets.now) }
+    ensures ok { OnOk result (CanStand common targets.now) }
+    ensures err { IfErr result (IsNamesFault common targets.now) }
 {
     if targets.is_empty() || targets.len() > 255 || !are_short(alloc, targets)? {
         return Err(Fault::Names);

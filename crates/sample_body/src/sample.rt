@@ -1,6 +1,6 @@
 //! The body that a plan for a request has.
-ghost use Rattle.std.specs.Prelude.{IfOk};
-ghost use Rattle.sample_body.specs.Sample.{CanBeMet, IsSample};
+ghost use Rattle.std.specs.Prelude.{IfOk, IfErr};
+ghost use Rattle.sample_body.specs.Sample.{CanBeMet, IsSample, IsWhy};
 
 use crate::fault::Fault;
 use crate::names::check_names;
@@ -21,6 +21,8 @@ const LONGEST_KEY: usize = 16_384;
 pub fn body_for(alloc: Global, wanted: &Wanted, request: &[u8]) -> Result<Bytes, Fault>
     requires { CanBeMet wanted.now }
     ensures ok { IfOk result (λ body. IsSample request.now wanted.now body) }
+    // Otherwise there is none.
+    ensures err { IfErr result (IsWhy request.now wanted.now) }
 {
     let fields = read_request(alloc, request)?;
     let Some(targets) = &fields.san else {

@@ -3,8 +3,8 @@ use Rattle.csr10.specs.View as view
 use Rattle.tbs_build.specs.Plan.{Plan}
 use Rattle.sample_body.proofs.sample.body_for.Goals as goal
 
-pub returns : goal.returns
-returns c =
+pub returns-clause-ok : goal.returns-clause-ok
+returns-clause-ok c =
     let fields = c.in_ok-fields.fields in
     let wanted = c.args.wanted.now in
     let plan : Plan = record {
@@ -18,20 +18,18 @@ returns c =
       profile = c.in_ok-profile.profile;
     } in
     record {
-      ok = record {
-        plan = plan;
-        planned = record {
-          fields = view.fields fields;
-          asked = c.in_ok-fields.ensures.ok;
-          key = refl;
-          names = c.in-Some.is;
-          serial = refl;
-          first = refl;
-          last = refl;
-          common = refl;
-          alg = c.in_ok-profile.ensures.alg;
-          sound = search rules;
-        };
-        spelled = c.in_ok-build.ensures.body;
+      plan = plan;
+      planned = record {
+        fields = view.fields fields;
+        asked = c.in_ok-fields.ensures.ok;
+        key = refl;
+        names = c.in-Some.is;
+        serial = refl;
+        first = refl;
+        last = refl;
+        common = refl;
+        alg = c.in_ok-profile.ensures.alg;
+        sound = search rules;
       };
+      spelled = c.in_ok-build.ensures.body;
     }
