@@ -9,7 +9,8 @@ use Rattle.tbs_build.specs.Body.{body_of}
 use Rattle.tbs_build.specs.Names.{IsShort}
 use Rattle.tbs_build.specs.Plan.{Plan, IsSerial, IsSound, begins_with_name}
 use Rattle.sample_body.specs.declared.fault.Fault.{Fault}
-use Rattle.sample_body.specs.declared.fault.Fault.TheVariants.{Usage, Request, NoNames, Names, Key, Input, Output, NoMemory}
+use Rattle.sample_body.specs.declared.fault.Fault.TheVariants.{Usage, Request, NoNames, Names}
+use Rattle.sample_body.specs.declared.fault.Fault.TheVariants.{Key, Input, Output, NoMemory}
 use Rattle.sample_body.specs.declared.words.Wanted.{Wanted}
 
 -- a serial number of sixteen bytes, and a first second from which 47 days end with the year 9999 at the latest
