@@ -1,4 +1,5 @@
 use der_text::ReadFault;
+use gate_base::NoMemory;
 use names_core::{NameRead, SuffixFault};
 use std::alloc::{AllocError, AllocFailed};
 use std::io;
@@ -9,6 +10,8 @@ pub enum Fault {
     Tree(ReadFault),
     Rules(SuffixFault),
     Name(NameRead),
+    /// A body has no name, or one or a key that can't stand in a certificate.
+    Body,
     Output(io::Error),
     NoMemory,
 }
@@ -16,6 +19,12 @@ pub enum Fault {
 impl From<io::Error> for Fault {
     fn from(fault: io::Error) -> Fault {
         Fault::Output(fault)
+    }
+}
+
+impl From<NoMemory> for Fault {
+    fn from(_: NoMemory) -> Fault {
+        Fault::NoMemory
     }
 }
 

@@ -11,11 +11,16 @@ pub enum Work {
     Suffixes(u16),
     /// So many kilobytes are digested.
     Sha256(u8),
+    /// The body of a certificate with so many names is linted.
+    Lints(u8),
+    /// The same body is digested.
+    BodySha256(u8),
     /// Each of these, at one size.
     All(u8),
 }
 
-fn kilobytes(word: &str) -> Option<u8> {
+/// A number from 1 to 255: kilobytes, or names.
+fn small_size(word: &str) -> Option<u8> {
     match word.parse::<u8>() {
         Ok(0) | Err(_) => None,
         Ok(size) => Some(size),
@@ -36,10 +41,12 @@ pub fn read_work(words: &[String]) -> Option<(Work, u32)> {
     };
     let size = size.as_str();
     let work = match what.as_str() {
-        "trees" => Work::Trees(kilobytes(size)?),
+        "trees" => Work::Trees(small_size(size)?),
         "suffixes" => Work::Suffixes(rules(size)?),
-        "sha256" => Work::Sha256(kilobytes(size)?),
-        "all" => Work::All(kilobytes(size)?),
+        "sha256" => Work::Sha256(small_size(size)?),
+        "lints" => Work::Lints(small_size(size)?),
+        "body-sha256" => Work::BodySha256(small_size(size)?),
+        "all" => Work::All(small_size(size)?),
         _ => return None,
     };
     let times = times.as_str().parse::<u32>().ok()?;
