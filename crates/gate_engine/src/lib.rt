@@ -17,4 +17,10 @@ pub use fault::StartFault;
 pub use law::one_history;
 
 #[cfg(test)]
+mod blocked;
+#[cfg(test)]
+mod finalized;
+#[cfg(test)]
+mod listed;
+#[cfg(test)]
 mod tests;

@@ -4,7 +4,8 @@ ghost use Rattle.gate_entries.specs.Spelling.{IsTarget, AreTargets};
 ghost use Rattle.gate_entries.specs.Command.{IsCommand, IsCaller};
 
 use super::*;
-use gate_base::{Bytes, Moment, Role, Sequence, Sixteen, Target, Targets};
+use crate::listed::{Row, Rows, payload, put, records};
+use gate_base::{Bytes, Moment, Role, Sequence, Target, Targets};
 use gate_entries::{Caller, Command, Reply, Why, Whys, read_name_text};
 use journal_core::{Journal, MAX_PAYLOAD};
 use plant::{Fail, ListClock, ListEntropy, MemoryPlant};
@@ -13,57 +14,57 @@ use std::marker::Model;
 use std::process::Abort;
 
 /// 2025-09-15T00:00:00Z and 2099-12-31T23:59:59Z.
-const FIRST: u64 = 1_757_894_400;
+pub const FIRST: u64 = 1_757_894_400;
 
-const LAST: u64 = 4_102_444_799;
+pub const LAST: u64 = 4_102_444_799;
 
 /// 2026-09-21T14:13:20Z, when the journal began.
-const BEGUN: u64 = 1_790_000_000;
+pub const BEGUN: u64 = 1_790_000_000;
 
 /// The head, and the record of empty settings at that moment.
 const BEGUN_DISK: &[u8] =
     b"gate journal 00\n\0\0\0\x17\x01\0\0\0\0\0\0\0\x01\0\0\0\0\x6a\xb1\x3b\x80\0\0\0\0\0\0";
 
 /// The greatest length of a journal.
-const MOST_BYTES: u64 = 67_108_864;
+pub const MOST_BYTES: u64 = 67_108_864;
 
 /// A command: the numbers of its caller, key and content.
-type Asked = (u8, u8, u8);
+pub type Asked = (u8, u8, u8);
 
 /// A reply: its kind, and the number that it gives or 0.
-type Said = (u8, u64);
+pub type Said = (u8, u64);
 
-const PLACED: u8 = 1;
+pub const PLACED: u8 = 1;
 
-const KEY_REUSED: u8 = 2;
+pub const KEY_REUSED: u8 = 2;
 
-const CLOCK_RANGE: u8 = 3;
+pub const CLOCK_RANGE: u8 = 3;
 
-const CLOCK_FAULT: u8 = 4;
+pub const CLOCK_FAULT: u8 = 4;
 
-const DISK_FAULT: u8 = 5;
+pub const DISK_FAULT: u8 = 5;
 
-const FULL: u8 = 6;
+pub const FULL: u8 = 6;
 
-const BLOCKED: u8 = 9;
+pub const BLOCKED: u8 = 9;
 
-const ROLE_DENIED: u8 = 10;
+pub const ROLE_DENIED: u8 = 10;
 
-const BAD_FIELDS: u8 = 11;
+pub const BAD_FIELDS: u8 = 11;
 
-const ISSUED: u8 = 12;
+pub const ISSUED: u8 = 12;
 
-const NO_SUCH_ORDER: u8 = 13;
+pub const NO_SUCH_ORDER: u8 = 13;
 
-const ENTROPY_REPEAT: u8 = 14;
+pub const ENTROPY_REPEAT: u8 = 14;
 
-const REFUSED: u8 = 15;
+pub const REFUSED: u8 = 15;
 
-const ENTROPY_FAULT: u8 = 16;
+pub const ENTROPY_FAULT: u8 = 16;
 
-const SIGNER_FAULT: u8 = 17;
+pub const SIGNER_FAULT: u8 = 17;
 
-fn said(reply: Reply) -> Said {
+pub fn said(reply: Reply) -> Said {
     match reply {
         Reply::Placed { order } => (PLACED, order),
         Reply::KeyReused { kept } => (KEY_REUSED, kept),
@@ -96,7 +97,7 @@ fn blocking(why: &Whys) -> u64 {
 // ---- what a command's numbers stand for
 
 /// A caller's id. With the keys below, two of them make one text with another key.
-fn id_of(caller: u8) -> &'static [u8]
+pub fn id_of(caller: u8) -> &'static [u8]
     ensures { length result.now ≤ 64 }
 {
     match caller {
@@ -107,7 +108,7 @@ fn id_of(caller: u8) -> &'static [u8]
     }
 }
 
-fn key_of(key: u8) -> &'static [u8]
+pub fn key_of(key: u8) -> &'static [u8]
     ensures { length result.now < 2 ^ 8 }
 {
     match key {
@@ -121,14 +122,14 @@ fn key_of(key: u8) -> &'static [u8]
 
 /// What is ordered. Each differs from the first in one field.
 #[derive(Clone, Copy)]
-struct Content {
-    days: u16,
-    common: bool,
-    name: &'static [u8],
-    request: u8,
+pub struct Content {
+    pub days: u16,
+    pub common: bool,
+    pub name: &'static [u8],
+    pub request: u8,
 }
 
-fn content_of(number: u8) -> Content {
+pub fn content_of(number: u8) -> Content {
     let mut content = Content {
         days: 47,
         common: false,
@@ -149,11 +150,11 @@ fn content_of(number: u8) -> Content {
 
 /// An engine with the outside that it stands for.
 #[derive(Drop)]
-struct Gate {
-    engine: Engine,
-    plant: MemoryPlant,
+pub struct Gate {
+    pub engine: Engine,
+    pub plant: MemoryPlant,
     clock: ListClock,
-    entropy: ListEntropy,
+    pub entropy: ListEntropy,
 }
 
 impl Model for Gate {
@@ -169,7 +170,7 @@ impl Model for Gate {
 }
 
 impl Gate {
-    fn ask(&mut self, caller: &Caller, command: &Command) -> Reply
+    pub fn ask(&mut self, caller: &Caller, command: &Command) -> Reply
         requires caller { IsCaller caller.now }
         requires command { IsCommand command.now }
     {
@@ -183,7 +184,7 @@ impl Gate {
     }
 }
 
-fn bytes(rt: &impl Abort, alloc: Global, text: &[u8]) -> Bytes
+pub fn bytes(rt: &impl Abort, alloc: Global, text: &[u8]) -> Bytes
     ensures { result ≡ text.now }
 {
     Bytes::from_slice(alloc, text).expect(rt, "memory")
@@ -204,7 +205,7 @@ fn one_target(rt: &impl Abort, alloc: Global, text: &[u8]) -> Targets
     targets
 }
 
-fn command(rt: &impl Abort, alloc: Global, key: u8, content: Content) -> Command
+pub fn command(rt: &impl Abort, alloc: Global, key: u8, content: Content) -> Command
     ensures { IsCommand result }
 {
     Command::Order {
@@ -216,7 +217,7 @@ fn command(rt: &impl Abort, alloc: Global, key: u8, content: Content) -> Command
     }
 }
 
-fn caller(rt: &impl Abort, alloc: Global, caller: u8) -> Caller
+pub fn caller(rt: &impl Abort, alloc: Global, caller: u8) -> Caller
     ensures { IsCaller result }
 {
     Caller {
@@ -237,7 +238,7 @@ fn clock(rt: &impl Abort, alloc: Global, readings: &[Option<u64>]) -> ListClock 
 }
 
 /// An empty disk, of which the calls with these numbers fail.
-fn empty_plant(rt: &impl Abort, alloc: Global, calls: &[u64]) -> MemoryPlant {
+pub fn empty_plant(rt: &impl Abort, alloc: Global, calls: &[u64]) -> MemoryPlant {
     let mut fails = Sequence::new(alloc);
     for call in calls {
         fails.push((*call, Fail::Disk)).expect(rt, "memory");
@@ -246,7 +247,7 @@ fn empty_plant(rt: &impl Abort, alloc: Global, calls: &[u64]) -> MemoryPlant {
 }
 
 /// A gate over the journal that the disk holds.
-fn gate_over(
+pub fn gate_over(
     rt: &impl Abort,
     alloc: Global,
     mut plant: MemoryPlant,
@@ -260,209 +261,6 @@ fn gate_over(
         clock,
         entropy: ListEntropy::new(Sequence::new(alloc)),
     }
-}
-
-/// What is blocked under the retry key of that number.
-fn block(rt: &impl Abort, alloc: Global, key: usize, spki: &[u8]) -> Command
-    requires { length spki.now < 2 ^ 16 }
-    ensures { IsCommand result }
-{
-    let key: &[u8] = match key {
-        0 => b"k1",
-        1 => b"~!",
-        2 => b"k 1",
-        3 => b"",
-        _ => b"0123456789abcdef0123456789abcdef0123456789abcdef0123456789abcdef0",
-    };
-    Command::Block {
-        key: bytes(rt, alloc, key),
-        spki: bytes(rt, alloc, spki),
-    }
-}
-
-fn operator(rt: &impl Abort, alloc: Global) -> Caller
-    ensures { IsCaller result }
-{
-    Caller {
-        id: bytes(rt, alloc, b"op"),
-        role: Role::Operator,
-    }
-}
-
-// ---- the same as a list
-
-/// An order that was placed.
-#[derive(Clone, Copy)]
-struct Row {
-    number: u64,
-    moment: u64,
-    caller: u8,
-    key: u8,
-    content: u8,
-}
-
-/// The orders that the disk holds behind so many entries, its size, and what the outside will do.
-#[derive(Drop)]
-struct Rows<'a> {
-    before: u64,
-    rows: Vec<Row>,
-    size: u64,
-    /// Whether a commit failed since the disk was last read.
-    loose: bool,
-    calls: u64,
-    fails: &'a [u64],
-    readings: &'a [Option<u64>],
-    read: usize,
-}
-
-impl Rows<'_> {
-    /// Whether the next call of the disk fails.
-    fn next_call_fails(&mut self) -> bool {
-        self.calls = self.calls.saturating_add(1);
-        for call in self.fails {
-            if *call == self.calls {
-                return true;
-            }
-        }
-        false
-    }
-
-    /// The next reading; the last one stays.
-    fn next_reading(&mut self) -> Option<u64> {
-        let reading = match self.readings.get(self.read) {
-            Some(reading) => *reading,
-            None => None,
-        };
-        if self.read.saturating_add(1) < self.readings.len() {
-            self.read = self.read.saturating_add(1);
-        }
-        reading
-    }
-
-    /// Whether the disk was read again: it is synced, measured, and read in two pieces.
-    fn is_read_again(&mut self) -> bool {
-        for _ in 0..4 {
-            if self.next_call_fails() {
-                return false;
-            }
-        }
-        self.loose = false;
-        true
-    }
-
-    fn row_under(&self, caller: u8, key: u8) -> Option<Row> {
-        for row in self.rows.as_slice() {
-            if row.caller == caller && row.key == key {
-                return Some(*row);
-            }
-        }
-        None
-    }
-
-    /// The number and the moment of the next order.
-    fn next_row(&self, reading: u64) -> (u64, u64) {
-        let mut number = self.before.saturating_add(1);
-        let mut moment = BEGUN;
-        for row in self.rows.as_slice() {
-            number = number.saturating_add(1);
-            moment = row.moment;
-        }
-        if moment < reading {
-            moment = reading;
-        }
-        (number, moment)
-    }
-
-    /// Writes an order and syncs it. A write that fails writes nothing; behind a sync that fails the order stands.
-    fn place(&mut self, rt: &impl Abort, alloc: Global, row: Row) -> Said {
-        let payload = payload(rt, alloc, row);
-        let size = self
-            .size
-            .saturating_add(4)
-            .saturating_add(payload.len() as u64);
-        if MOST_BYTES < size {
-            return (FULL, 0);
-        }
-        self.loose = true;
-        if self.next_call_fails() {
-            return (DISK_FAULT, 0);
-        }
-        self.rows.push(row).expect(rt, "memory");
-        self.size = size;
-        if self.next_call_fails() {
-            return (DISK_FAULT, 0);
-        }
-        self.loose = false;
-        (PLACED, row.number)
-    }
-
-    fn answer(&mut self, rt: &impl Abort, alloc: Global, asked: Asked) -> Said {
-        let (caller, key, content) = asked;
-        if self.loose && !self.is_read_again() {
-            return (DISK_FAULT, 0);
-        }
-        let Some(reading) = self.next_reading() else {
-            return (CLOCK_FAULT, 0);
-        };
-        if reading < FIRST || LAST < reading {
-            return (CLOCK_RANGE, reading);
-        }
-        match self.row_under(caller, key) {
-            Some(row) if row.content == content => (PLACED, row.number),
-            Some(row) => (KEY_REUSED, row.number),
-            None => {
-                let (number, moment) = self.next_row(reading);
-                let row = Row {
-                    number,
-                    moment,
-                    caller,
-                    key,
-                    content,
-                };
-                self.place(rt, alloc, row)
-            }
-        }
-    }
-}
-
-fn put(rt: &impl Abort, out: &mut Vec<u8>, piece: &[u8]) {
-    out.extend_from_slice(piece).expect(rt, "memory");
-}
-
-/// A text behind its length in one byte.
-fn put_counted(rt: &impl Abort, out: &mut Vec<u8>, text: &[u8]) {
-    let size = u8::try_from(text.len()).expect(rt, "a short text");
-    put(rt, out, &[size]);
-    put(rt, out, text);
-}
-
-/// What an order's record holds.
-fn payload(rt: &impl Abort, alloc: Global, row: Row) -> Vec<u8> {
-    let content = content_of(row.content);
-    let mut out = Vec::new(alloc);
-    put(rt, &mut out, &[2]);
-    put(rt, &mut out, &row.number.to_be_bytes());
-    put(rt, &mut out, &row.moment.to_be_bytes());
-    put(rt, &mut out, &[0]);
-    put_counted(rt, &mut out, id_of(row.caller));
-    put_counted(rt, &mut out, key_of(row.key));
-    put(rt, &mut out, &[u8::from(content.common)]);
-    put(rt, &mut out, &content.days.to_be_bytes());
-    put(rt, &mut out, &[1, 1, 0]);
-    put_counted(rt, &mut out, content.name);
-    put(rt, &mut out, &[0, 1, content.request]);
-    out
-}
-
-/// The records of these orders.
-fn records(rt: &impl Abort, alloc: Global, rows: &[Row]) -> Vec<u8> {
-    let mut out = Vec::new(alloc);
-    for row in rows {
-        let payload = payload(rt, alloc, *row);
-        put(rt, &mut out, &[0, 0, 0]);
-        put_counted(rt, &mut out, &payload);
-    }
-    out
 }
 
 /// Caller, key and content of each command, and its reply.
@@ -857,150 +655,4 @@ fn a_disk_that_is_too_long_is_told(rt: HostRuntime) {
         let fault = fault_of_bytes(&rt, rt.alloc(), &disk);
         assert_eq!(rt; fault, bad_at(at), "{size} bytes");
     }
-}
-
-/// The record of the key that operator `op` blocks under `k1`, as entry 2.
-const BLOCKED_RECORD: &[u8] =
-    b"\0\0\0\x1d\x08\0\0\0\0\0\0\0\x02\0\0\0\0\x6a\xb1\x3b\x80\0\x02op\x02k1\0\x03\xaa\xbb\xcc";
-
-/// The retry key and the blocked key of each command of the operator, and its reply.
-const BLOCKS: &[(usize, u8, Said)] = &[
-    (0, 3, (BLOCKED, 2)),
-    (0, 3, (BLOCKED, 2)),
-    (0, 2, (KEY_REUSED, 2)),
-    (0, 0, (KEY_REUSED, 2)),
-    (1, 0, (BAD_FIELDS, 17)),
-    (2, 3, (BAD_FIELDS, 1)),
-    (3, 0, (BAD_FIELDS, 1)),
-    (4, 3, (BAD_FIELDS, 1)),
-    // the same key again, under another retry key
-    (1, 3, (BLOCKED, 3)),
-    (1, 3, (BLOCKED, 3)),
-];
-
-#[test]
-fn keys_are_blocked_by_operators(rt: HostRuntime) {
-    let alloc = rt.alloc();
-    let mut plant = empty_plant(&rt, alloc, &[]);
-    begin(alloc, &mut plant, Moment(BEGUN)).expect(&rt, "a journal");
-    let mut gate = gate_over(&rt, alloc, plant, &[Some(BEGUN)]);
-    // Neither may do what the other does.
-    let asked = block(&rt, alloc, 0, &[1]);
-    let denied = said(gate.ask(&caller(&rt, alloc, 0), &asked));
-    assert_eq!(rt; denied, (ROLE_DENIED, 0));
-    let asked = command(&rt, alloc, 0, content_of(0));
-    let denied = said(gate.ask(&operator(&rt, alloc), &asked));
-    assert_eq!(rt; denied, (ROLE_DENIED, 0));
-    for (key, size, want) in BLOCKS {
-        let spki: &[u8] = match size {
-            0 => &[],
-            2 => &[0xaa, 0xbb],
-            _ => &[0xaa, 0xbb, 0xcc],
-        };
-        let asked = block(&rt, alloc, *key, spki);
-        let got = said(gate.ask(&operator(&rt, alloc), &asked));
-        assert_eq!(rt; got, *want, "under key {key}");
-    }
-    assert_eq!(rt; gate.engine.count(), 3);
-    let record = gate.plant.disk().get(43..76);
-    assert!(rt; record == Some(BLOCKED_RECORD));
-}
-
-// ---- orders that are finalized
-
-/// What is asked when orders are finalized.
-#[derive(Clone, Copy)]
-enum Turn {
-    /// Caller `acme` orders under this key, with this content.
-    Order(u8, u8),
-    /// The account with this number has the order finalized.
-    Finalize(u8, u64),
-    /// The operator blocks a key of this one byte.
-    Block(u8),
-}
-
-/// The example's body: the serial number 40 and fifteen zeros, and `example.com`.
-const BODY: &[u8] =
-    b"\x30\x21\x02\x10\x40\0\0\0\0\0\0\0\0\0\0\0\0\0\0\0\x30\x0d\x82\x0bexample.com";
-
-/// Over a plant whose call 12, the first of the signer, loses its reply, and whose call 23, the write of a signature, fails.
-const TURNS: &[(Turn, Said)] = &[
-    (Turn::Order(0, 0), (PLACED, 2)),
-    (Turn::Finalize(1, 2), (NO_SUCH_ORDER, 0)),
-    (Turn::Finalize(0, 1), (NO_SUCH_ORDER, 0)),
-    (Turn::Finalize(0, 3), (NO_SUCH_ORDER, 0)),
-    (Turn::Finalize(0, 2), (SIGNER_FAULT, 0)),
-    (Turn::Finalize(0, 2), (ISSUED, 2)),
-    (Turn::Finalize(0, 2), (ISSUED, 2)),
-    // The drawn bytes stand already, with other bits where they are masked.
-    (Turn::Order(1, 4), (PLACED, 6)),
-    (Turn::Finalize(0, 6), (ENTROPY_REPEAT, 0)),
-    // The signature's entry isn't written: what was sent is sent again.
-    (Turn::Finalize(0, 6), (DISK_FAULT, 0)),
-    (Turn::Finalize(0, 6), (ISSUED, 6)),
-    (Turn::Order(2, 4), (PLACED, 10)),
-    (Turn::Finalize(0, 10), (ENTROPY_FAULT, 0)),
-    (Turn::Block(0x31), (BLOCKED, 11)),
-    (Turn::Finalize(0, 10), (REFUSED, 11)),
-    // A key that is blocked after the signature takes nothing back.
-    (Turn::Finalize(0, 6), (ISSUED, 6)),
-];
-
-/// Random bytes: zeros, the same with the bit that is masked, and others that are drawn twice.
-fn draws(rt: &impl Abort, alloc: Global) -> ListEntropy {
-    let mut draws = Sequence::new(alloc);
-    for first in [0, 0x80, 1] {
-        let mut bytes = [0; 16];
-        bytes[0] = first;
-        draws.push(Some(Sixteen(bytes))).expect(rt, "memory");
-    }
-    draws.push(None).expect(rt, "memory");
-    let mut last = [0; 16];
-    last[0] = 2;
-    draws.push(Some(Sixteen(last))).expect(rt, "memory");
-    ListEntropy::new(draws)
-}
-
-fn take_turn(rt: &impl Abort, alloc: Global, gate: &mut Gate, turn: Turn) -> Reply {
-    match turn {
-        Turn::Order(key, content) => {
-            let asked = command(rt, alloc, key, content_of(content));
-            gate.ask(&caller(rt, alloc, 0), &asked)
-        }
-        Turn::Finalize(asker, order) => {
-            gate.ask(&caller(rt, alloc, asker), &Command::Finalize { order })
-        }
-        Turn::Block(byte) => {
-            let asked = block(rt, alloc, 0, &[byte]);
-            gate.ask(&operator(rt, alloc), &asked)
-        }
-    }
-}
-
-#[test]
-fn orders_are_sent_signed_and_told(rt: HostRuntime) {
-    let alloc = rt.alloc();
-    let mut fails = Sequence::new(alloc);
-    fails.push((12, Fail::ReplyLost)).expect(&rt, "memory");
-    fails.push((23, Fail::Disk)).expect(&rt, "memory");
-    let secret = bytes(&rt, alloc, b"secret");
-    let mut plant = MemoryPlant::new(alloc, Bytes::new(alloc), secret, fails);
-    begin(alloc, &mut plant, Moment(BEGUN)).expect(&rt, "a journal");
-    let mut gate = gate_over(&rt, alloc, plant, &[Some(BEGUN)]);
-    gate.entropy = draws(&rt, alloc);
-    for (turn, want) in TURNS {
-        let reply = take_turn(&rt, alloc, &mut gate, *turn);
-        if let Reply::Issued { certificate, .. } = &reply {
-            assert_eq!(rt; certificate.len(), 84);
-            assert!(rt; certificate.as_slice().get(..2) == Some(b"\x30\x52".as_slice()));
-        }
-        assert_eq!(rt; said(reply), *want);
-    }
-    // Of the first order the same body was sent twice, and so was that of the second.
-    let sent = gate.plant.sent();
-    assert_eq!(rt; sent.len(), 4);
-    assert!(rt; sent.get(0).map(|body| body.as_slice()) == Some(BODY));
-    assert!(rt; sent.get(1).map(|body| body.as_slice()) == Some(BODY));
-    assert!(rt; sent.get(2) == sent.get(3));
-    assert!(rt; sent.get(2) != sent.get(0));
 }

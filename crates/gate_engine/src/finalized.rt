@@ -1,0 +1,110 @@
+//! Orders that are finalized, over a plant that loses a signature and a write.
+
+use crate::begin;
+use crate::blocked::{block, operator};
+use crate::tests::{
+    BEGUN, BLOCKED, DISK_FAULT, ENTROPY_FAULT, ENTROPY_REPEAT, Gate, ISSUED, NO_SUCH_ORDER, PLACED,
+    REFUSED, SIGNER_FAULT, Said, bytes, caller, command, content_of, gate_over, said,
+};
+use gate_base::{Bytes, Moment, Sequence, Sixteen};
+use gate_entries::{Command, Reply};
+use plant::{Fail, ListEntropy, MemoryPlant};
+use std::alloc::Global;
+use std::process::Abort;
+
+/// What is asked when orders are finalized.
+#[derive(Clone, Copy)]
+enum Turn {
+    /// Caller `acme` orders under this key, with this content.
+    Order(u8, u8),
+    /// The account with this number has the order finalized.
+    Finalize(u8, u64),
+    /// The operator blocks a key of this one byte.
+    Block(u8),
+}
+
+/// The example's body: the serial number 40 and fifteen zeros, and `example.com`.
+const BODY: &[u8] =
+    b"\x30\x21\x02\x10\x40\0\0\0\0\0\0\0\0\0\0\0\0\0\0\0\x30\x0d\x82\x0bexample.com";
+
+/// Over a plant whose call 12, the first of the signer, loses its reply, and whose call 23, the write of a signature, fails.
+const TURNS: &[(Turn, Said)] = &[
+    (Turn::Order(0, 0), (PLACED, 2)),
+    (Turn::Finalize(1, 2), (NO_SUCH_ORDER, 0)),
+    (Turn::Finalize(0, 1), (NO_SUCH_ORDER, 0)),
+    (Turn::Finalize(0, 3), (NO_SUCH_ORDER, 0)),
+    (Turn::Finalize(0, 2), (SIGNER_FAULT, 0)),
+    (Turn::Finalize(0, 2), (ISSUED, 2)),
+    (Turn::Finalize(0, 2), (ISSUED, 2)),
+    // The drawn bytes stand already, with other bits where they are masked.
+    (Turn::Order(1, 4), (PLACED, 6)),
+    (Turn::Finalize(0, 6), (ENTROPY_REPEAT, 0)),
+    // The signature's entry isn't written: what was sent is sent again.
+    (Turn::Finalize(0, 6), (DISK_FAULT, 0)),
+    (Turn::Finalize(0, 6), (ISSUED, 6)),
+    (Turn::Order(2, 4), (PLACED, 10)),
+    (Turn::Finalize(0, 10), (ENTROPY_FAULT, 0)),
+    (Turn::Block(0x31), (BLOCKED, 11)),
+    (Turn::Finalize(0, 10), (REFUSED, 11)),
+    // A key that is blocked after the signature takes nothing back.
+    (Turn::Finalize(0, 6), (ISSUED, 6)),
+];
+
+/// Random bytes: zeros, the same with the bit that is masked, and others that are drawn twice.
+fn draws(rt: &impl Abort, alloc: Global) -> ListEntropy {
+    let mut draws = Sequence::new(alloc);
+    for first in [0, 0x80, 1] {
+        let mut bytes = [0; 16];
+        bytes[0] = first;
+        draws.push(Some(Sixteen(bytes))).expect(rt, "memory");
+    }
+    draws.push(None).expect(rt, "memory");
+    let mut last = [0; 16];
+    last[0] = 2;
+    draws.push(Some(Sixteen(last))).expect(rt, "memory");
+    ListEntropy::new(draws)
+}
+
+fn take_turn(rt: &impl Abort, alloc: Global, gate: &mut Gate, turn: Turn) -> Reply {
+    match turn {
+        Turn::Order(key, content) => {
+            let asked = command(rt, alloc, key, content_of(content));
+            gate.ask(&caller(rt, alloc, 0), &asked)
+        }
+        Turn::Finalize(asker, order) => {
+            gate.ask(&caller(rt, alloc, asker), &Command::Finalize { order })
+        }
+        Turn::Block(byte) => {
+            let asked = block(rt, alloc, 0, &[byte]);
+            gate.ask(&operator(rt, alloc), &asked)
+        }
+    }
+}
+
+#[test]
+fn orders_are_sent_signed_and_told(rt: HostRuntime) {
+    let alloc = rt.alloc();
+    let mut fails = Sequence::new(alloc);
+    fails.push((12, Fail::ReplyLost)).expect(&rt, "memory");
+    fails.push((23, Fail::Disk)).expect(&rt, "memory");
+    let secret = bytes(&rt, alloc, b"secret");
+    let mut plant = MemoryPlant::new(alloc, Bytes::new(alloc), secret, fails);
+    begin(alloc, &mut plant, Moment(BEGUN)).expect(&rt, "a journal");
+    let mut gate = gate_over(&rt, alloc, plant, &[Some(BEGUN)]);
+    gate.entropy = draws(&rt, alloc);
+    for (turn, want) in TURNS {
+        let reply = take_turn(&rt, alloc, &mut gate, *turn);
+        if let Reply::Issued { certificate, .. } = &reply {
+            assert_eq!(rt; certificate.len(), 84);
+            assert!(rt; certificate.as_slice().get(..2) == Some(b"\x30\x52".as_slice()));
+        }
+        assert_eq!(rt; said(reply), *want);
+    }
+    // Of the first order the same body was sent twice, and so was that of the second.
+    let sent = gate.plant.sent();
+    assert_eq!(rt; sent.len(), 4);
+    assert!(rt; sent.get(0).map(|body| body.as_slice()) == Some(BODY));
+    assert!(rt; sent.get(1).map(|body| body.as_slice()) == Some(BODY));
+    assert!(rt; sent.get(2) == sent.get(3));
+    assert!(rt; sent.get(2) != sent.get(0));
+}
