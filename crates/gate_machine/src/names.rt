@@ -1,5 +1,5 @@
 //! The rules on the names and the days of an order.
-ghost use Rattle.std.specs.Prelude.{◌≡◌, ◌≢◌, ◌<◌, ◌↔◌, length, IsTrue, IfOk};
+ghost use Rattle.std.specs.Prelude.{◌≡◌, ◌≢◌, ◌<◌, ◌↔◌, length, false, IsTrue, IfOk};
 ghost use Rattle.std.specs.List.{AllByRecursion};
 ghost use Rattle.gate_machine.specs.Rules.{AreDistinct, HasBadCount, HasBadDays, IsNoCommonName, HasBadCommonName, NamesBreak, TellsLeast, IsAmong, IsSameSet};
 

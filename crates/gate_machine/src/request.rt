@@ -1,5 +1,5 @@
 //! The rules on the request of an order, and the key in it.
-ghost use Rattle.std.specs.Prelude.{◌≡◌, ◌↔◌, ℕ, List, true, IsTrue, IfOk, IfNone};
+ghost use Rattle.std.specs.Prelude.{◌≡◌, ◌↔◌, ℕ, List, None, true, IsTrue, IfOk, IfNone};
 ghost use Rattle.gate_machine.specs.Rules as spec;
 ghost use Rattle.gate_machine.specs.Rules.{IsOther, HasFault, RequestBreaks, TellsLeast, BreaksNone};
 ghost use Rattle.gate_machine.specs.Sends as sends;
@@ -69,7 +69,7 @@ fn has_other_names(san: &Option<Targets>, targets: &[Target]) -> bool
 
 /// The rule's number of a request's fault.
 fn rule_of(fault: CsrFault) -> Result<Option<u8>, NoMemory>
-    ensures { IfOk result (λ rule. rule ≡ spec.rule_of fault) }
+    ensures exact { IfOk result (λ rule. rule ≡ spec.rule_of fault) }
     ensures some { IfOk result (λ rule. IfNone rule ⊥) }
 {
     match fault {
@@ -104,7 +104,16 @@ fn key_in(alloc: Global, request: &[u8]) -> Result<&[u8], NoMemory>
     one_reading();
     match read_request(alloc, request) {
         Ok(fields) => Ok(fields.spki),
-        Err(CsrFault::NoMemory) => Err(NoMemory),
-        Err(_) => unreachable!(),
+        Err(fault) => Err(want_of_memory(fault)),
+    }
+}
+
+/// A fault that breaks no rule is want of memory.
+fn want_of_memory(fault: CsrFault) -> NoMemory
+    requires { spec.rule_of fault ≡ None }
+{
+    match fault {
+        CsrFault::NoMemory => NoMemory,
+        _ => unreachable!(),
     }
 }
