@@ -14,6 +14,6 @@ returns-in-Order c =
     let row = λ (w : What). IfOk c.comes_under_key.result (λ meets. IsTrue meets ↔ MeetsRow c.args.before.now c.args.caller.now c.args.moment w) in
     let under = λ (w : What). IfOk c.comes_under_key.result (λ comes. IsTrue comes ↔ ComesUnderKey c.args.before.now c.args.caller.now w) in
     elim c.in-Order.is [
-      | inl order ↦ subst row (sym order.1.1.1.1.1) (subst under order.1.1.1.1.1 c.comes_under_key.ensures)
-      | inr block ↦ subst row (sym block.1.1) (subst under block.1.1 c.comes_under_key.ensures)
+      | inl order ↦ subst row (sym order.5) (subst under order.5 c.comes_under_key.ensures)
+      | inr block ↦ subst row (sym block.2) (subst under block.2 c.comes_under_key.ensures)
     ]
