@@ -17,7 +17,7 @@ pub const P521: &[u8] = b"\x30\x10\x06\x07\x2a\x86\x48\xce\x3d\x02\x01\x06\x05\x
 /// The algorithm of an RSA key (RFC 3279, section 2.3.1).
 const RSA: &[u8] = b"\x30\x0d\x06\x09\x2a\x86\x48\x86\xf7\x0d\x01\x01\x01\x05\0";
 
-/// The algorithm of the signature, and a signature without bits.
+/// The algorithm of the signature, and a signature of eight bits.
 const SIGNATURE: &[u8] = b"\x30\x0a\x06\x08\x2a\x86\x48\xce\x3d\x04\x03\x02\x03\x02\0\0";
 
 /// 1.2.840.113549.1.9.7, a challengePassword (RFC 2985, section 5.4.1).

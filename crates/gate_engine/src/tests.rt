@@ -121,7 +121,7 @@ pub fn key_of(key: u8) -> &'static [u8]
     }
 }
 
-/// What is ordered. Each differs from the first in one field.
+/// What is ordered. Each differs from the first in one field; that with number 5 breaks a rule.
 #[derive(Clone, Copy)]
 pub struct Content {
     pub days: u16,
@@ -143,6 +143,7 @@ pub fn content_of(number: u8) -> Content {
         1 => content.days = 48,
         2 => content.common = true,
         3 => content.name = b"www.example.com",
+        5 => content.days = 0,
         _ => content.request = 0x12,
     }
     content
@@ -584,6 +585,17 @@ fn an_order_that_may_not_follow_is_told(rt: HostRuntime) {
         let fault = fault_of_two(&rt, rt.alloc(), SETTINGS, &payload);
         assert_eq!(rt; fault, want, "{number} at {moment}");
     }
+}
+
+#[test]
+fn an_order_that_breaks_a_rule_is_told(rt: HostRuntime) {
+    let row = Row {
+        content: 5,
+        ..ORDER
+    };
+    let payload = payload(&rt, rt.alloc(), row);
+    let fault = fault_of_two(&rt, rt.alloc(), SETTINGS, &payload);
+    assert_eq!(rt; fault, bad_at(43));
 }
 
 #[test]
