@@ -1,4 +1,4 @@
-"""Certificate requests (RFC 2986): written byte by byte, good ones and others, and judged by the rules of docs/RULES.md."""
+"""Certificate requests (RFC 2986), written byte by byte, and judged by the rules of docs/RULES.md."""
 
 import ipaddress
 import re
@@ -6,7 +6,8 @@ import re
 from der import BIT_STRING, BOOLEAN, INTEGER, NULL, OBJECT_IDENTIFIER, OCTET_STRING, SEQUENCE, SET, UTF8_STRING, NoDer
 from der import bit_string, element, integer, object_identifier, octet_string, read, sequence, set_of
 
-ATTRIBUTES, DNS_NAME, IP_ADDRESS, RFC822_NAME = 0xA0, 0x82, 0x87, 0x81
+ATTRIBUTES, RFC822_NAME, DNS_NAME, IP_ADDRESS = 0xA0, 0x81, 0x82, 0x87
+MOST_BYTES = 16_384
 NO_DER, SHAPE, VERSION, KEY, TWO_SANS, SAN_NAME, OTHER_NAMES = range(7, 14)
 
 EXTENSION_REQUEST = object_identifier("1.2.840.113549.1.9.14")
@@ -79,6 +80,70 @@ def request_with(key=point_key(), attributes=(), version=0):
 def request_of(names, key=point_key()):
     """A request with these names in its subjectAltName."""
     return request_with(key, [asking(alternative_names(names))])
+
+
+def good_requests(names):
+    """Good requests of an order for these names: what each is, and its bytes."""
+    upper = [name.upper() for name in names]
+    listed = asking(alternative_names(names))
+    return [
+        ("no subjectAltName", request_with()),
+        ("the names", request_of(names)),
+        ("the names the other way round", request_of(names[::-1])),
+        ("the names in upper case", request_of(upper)),
+        ("each name twice", request_of([*names, *names])),
+        ("the names beside other attributes", request_with(attributes=[password(9), listed, password(300)])),
+        ("the names beside a key usage", request_with(attributes=[asking(key_usage(), alternative_names(names))])),
+        ("a key usage alone", request_with(attributes=[asking(key_usage())])),
+        ("P-384", request_with(point_key(b"\x22" * 96, "P-384"))),
+        ("P-521", request_with(point_key(b"\x33" * 132, "P-521"))),
+        ("RSA of 2,048 bits", request_of(names, rsa_key(2**2047 + 1))),
+        ("RSA of 2,056 bits with the exponent 3", request_of(names, rsa_key(2**2056 - 1, 3))),
+        ("RSA of 8,192 bits", request_with(rsa_key(2**8191 + 1))),
+        ("16,384 bytes", request_with(attributes=[password(MOST_BYTES - 147)])),
+    ]
+
+
+def faulty_requests(names):
+    """Requests with a fault each for an order of these names: what it is, the rule, and the bytes."""
+    good, listed = request_of(names), alternative_names(names)
+    no_sequence = sequence(SUBJECT_ALT_NAME, octet_string(integer(1)))
+    no_value = sequence(SUBJECT_ALT_NAME)
+    compressed = point_key(b"\x11" * 32, form=2)
+    turned = names[0][2:] if names[0].startswith("*.") else "*." + names[0]
+    bad_name, mail = element(DNS_NAME, b"a_b.com"), element(RFC822_NAME, b"a@example.com")
+    five_octets = element(IP_ADDRESS, bytes(5))
+    return [
+        ("three bytes", NO_DER, bytes.fromhex("308201")),
+        ("a length that isn't the shortest", NO_DER, bytes.fromhex("3081050000000000")),
+        ("a request that is cut off", NO_DER, good[:-1]),
+        ("a request with a byte behind it", NO_DER, good + b"\x00"),
+        ("zeros", NO_DER, bytes(MOST_BYTES)),
+        ("an empty SEQUENCE", SHAPE, sequence()),
+        ("a number", SHAPE, integer(0)),
+        ("an attribute without values", SHAPE, request_with(attributes=[sequence(EXTENSION_REQUEST)])),
+        ("an extension without a value", SHAPE, request_with(attributes=[asking(no_value)])),
+        ("a subjectAltName that is no SEQUENCE", SHAPE, request_with(attributes=[asking(no_sequence)])),
+        ("version 1", VERSION, request_with(version=1)),
+        ("version 256, with a bad key", VERSION, request_with(compressed, version=256)),
+        ("a compressed point", KEY, request_of(names, compressed)),
+        ("a point on secp256k1", KEY, request_with(point_key(curve="secp256k1"))),
+        ("a point of P-384 on P-256", KEY, request_with(point_key(b"\x11" * 96))),
+        ("RSA of 2,040 bits", KEY, request_with(rsa_key(2**2040 - 1))),
+        ("RSA of 2,049 bits", KEY, request_with(rsa_key(2**2048 + 1))),
+        ("RSA with the exponent 1", KEY, request_with(rsa_key(2**2048 - 1, 1))),
+        ("RSA with the exponent 65536", KEY, request_with(rsa_key(2**2048 - 1, 65_536))),
+        ("two subjectAltNames", TWO_SANS, request_with(attributes=[asking(listed, listed)])),
+        ("two in two attributes", TWO_SANS, request_with(attributes=[asking(listed), asking(listed)])),
+        ("a name with an underscore", SAN_NAME, request_of([*names, bad_name])),
+        ("a mail address", SAN_NAME, request_of([mail, *names])),
+        ("an address of five octets", SAN_NAME, request_of([five_octets])),
+        ("one more name", OTHER_NAMES, request_of([*names, "more.example"])),
+        ("one more address", OTHER_NAMES, request_of(["192.0.2.1", *names])),
+        ("one name less", OTHER_NAMES, request_of(names[1:])),
+        ("another name", OTHER_NAMES, request_of(["other.example"])),
+        ("a wildcard in place of a name, or the other way round", OTHER_NAMES, request_of([turned, *names[1:]])),
+    ]
 
 
 # ---- judging
@@ -162,7 +227,8 @@ def name_of(text):
     name = text.decode("latin-1")
     name = "".join(letter.lower() if letter.isascii() else letter for letter in name)
     labels = name.removeprefix("*.").split(".")
-    need(len(text) <= 253 and all(re.fullmatch(r"[a-z0-9]([a-z0-9-]{0,61}[a-z0-9])?", label) for label in labels), SAN_NAME)
+    label_form = re.compile(r"[a-z0-9]([a-z0-9-]{0,61}[a-z0-9])?")
+    need(len(text) <= 253 and all(label_form.fullmatch(label) for label in labels), SAN_NAME)
     if any(label.startswith("xn--") for label in labels):
         raise ValueError("labels in Punycode aren't judged here")
     need(all(label[2:4] != "--" for label in labels), SAN_NAME)
