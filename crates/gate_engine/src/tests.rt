@@ -448,14 +448,14 @@ fn put_long_block(rt: &impl Abort, out: &mut Vec<u8>, number: u16, spki: &[u8]) 
     put(rt, out, spki);
 }
 
-/// The number's four digits, for 16 each.
+/// The number in four letters from a to p, of 16 values each.
 fn digits(number: u16) -> [u8; 4] {
     let [high, low] = number.to_be_bytes();
     [
-        b'a' + high / 16,
-        b'a' + high % 16,
-        b'a' + low / 16,
-        b'a' + low % 16,
+        b'a'.saturating_add(high / 16),
+        b'a'.saturating_add(high % 16),
+        b'a'.saturating_add(low / 16),
+        b'a'.saturating_add(low % 16),
     ]
 }
 
