@@ -121,7 +121,8 @@ pub fn key_of(key: u8) -> &'static [u8]
     }
 }
 
-/// What is ordered. Each differs from the first in one field; that with number 5 breaks a rule.
+/// What is ordered. Each differs from the first in one field. That with the number 5 breaks a rule, and the name of that with
+/// the number 6 is read to another text.
 #[derive(Clone, Copy)]
 pub struct Content {
     pub days: u16,
@@ -144,6 +145,7 @@ pub fn content_of(number: u8) -> Content {
         2 => content.common = true,
         3 => content.name = b"www.example.com",
         5 => content.days = 0,
+        6 => content.name = b"Example.com",
         _ => content.request = 0x12,
     }
     content
@@ -589,13 +591,12 @@ fn an_order_that_may_not_follow_is_told(rt: HostRuntime) {
 
 #[test]
 fn an_order_that_breaks_a_rule_is_told(rt: HostRuntime) {
-    let row = Row {
-        content: 5,
-        ..ORDER
-    };
-    let payload = payload(&rt, rt.alloc(), row);
-    let fault = fault_of_two(&rt, rt.alloc(), SETTINGS, &payload);
-    assert_eq!(rt; fault, bad_at(43));
+    for content in [5, 6] {
+        let row = Row { content, ..ORDER };
+        let payload = payload(&rt, rt.alloc(), row);
+        let fault = fault_of_two(&rt, rt.alloc(), SETTINGS, &payload);
+        assert_eq!(rt; fault, bad_at(43), "content {content}");
+    }
 }
 
 #[test]
