@@ -1,7 +1,6 @@
 -- What was written is read again, whatever stands behind it.
 use Rattle.std.proofs.Common.{◌≡◌, ℕ, suc, ◌^◌, ◌<◌, Bool, true, false, ltb, List, [], ◌∷◌, ◌++◌, length, Result, Ok, refl, sym, ap, ◌∙◌, append_assoc, append-nil, arith}
-use Rattle.std.specs.Prelude.{IsTrue, ◌&&◌, nat_lt}
-use Rattle.std.specs.List.{flat_map, list_all, AllByRecursion}
+use Rattle.std.specs.List.{flat_map, AllByRecursion}
 use Rattle.std.specs.Int.{Width, w8, w16, w32, w64, byte_len, to_be_bytes}
 use Rattle.std.proofs.lemmas.Bool.{le-ltb}
 use Rattle.std.proofs.lemmas.List.{take_at, drop_at, length-append}
@@ -13,11 +12,9 @@ use Rattle.gate_base.specs.declared.name.Target.TheVariants.{Dns, Ip}
 use Rattle.gate_entries.specs.declared.entry.Entry.{Entry}
 use Rattle.gate_entries.specs.declared.entry.What.{What}
 use Rattle.gate_entries.specs.declared.entry.What.TheVariants.{Settings, Order, Send, Signed, Blocked}
-use Rattle.gate_entries.specs.Name.{name_text, labels_of, is_label, is_name}
-use Rattle.gate_entries.specs.Spelling.{counted, truth, target_bytes, targets_bytes, kind_of, what_bytes, entry_bytes, IsTarget, IsWhat, HasCaller, most_bytes, IsEntry}
-use Rattle.gate_entries.specs.Reading.{◌>>=◌, bytes_at, number_at, bytes_behind, counted_at, truth_at, labels_behind, labels_at, name_at, v4_at, v6_at, target_at, targets_at, order_at, settings_at, send_at, signed_at, blocked_at, what_at, kind_at, caller_behind, caller_at, fields_at, whole_entry}
-use Rattle.gate_entries.proofs.Names.{left_holds, right_holds, labels_of-name_text}
-use Rattle.gate_entries.proofs.Sizes.{name_size}
+use Rattle.gate_entries.specs.Spelling.{counted, truth, labels_text, target_bytes, targets_bytes, kind_of, what_bytes, entry_bytes, IsTarget, IsWhat, HasCaller, most_bytes, IsEntry}
+use Rattle.gate_entries.specs.Reading.{◌>>=◌, bytes_at, number_at, bytes_behind, counted_at, truth_at, target_or, text_at, name_at, v4_at, v6_at, target_at, targets_at, order_at, settings_at, send_at, signed_at, blocked_at, what_at, kind_at, caller_behind, caller_at, fields_at, whole_entry}
+use Rattle.gate_entries.proofs.Names.{text_size, name_behind-text}
 use Rattle.gate_entries.proofs.Fields.{IsWide, wide8, wide16, wide32, wide64}
 
 -- a step that gives a value, and those behind it
@@ -54,27 +51,18 @@ truth_again false rest = refl
 
 -- ---- targets
 
-cut_again : (labels : List (List ℕ)) → (nat_lt 0 (length labels) && list_all is_label labels) ≡ true → labels_of (name_text labels) ≡ labels
-cut_again [] are = absurd cc
-cut_again (label ∷ labels) are = labels_of-name_text label labels (right_holds _ _ are)
+text_again : (name : Name) (rest : List ℕ) → IsTarget (Dns name) → text_at name.wild (counted w8 (labels_text name.labels) ++ rest) ≡ Ok (Dns name, rest)
+unfolding text_at
+text_again name rest is =
+    let text = labels_text name.labels in
+    bind_is (counted_at w8 (counted w8 text ++ rest)) (text, rest) _ (Ok (Dns name, rest)) (counted_again w8 (2 ^ 8) wide8 text rest (omega (arith, text_size name is)))
+    (ap (target_or (length (counted w8 text ++ rest)) rest) (name_behind-text name is))
 
-labels_again : (wild : Bool) (labels : List (List ℕ)) (rest : List ℕ) → IsTrue (is_name wild labels)
-    → labels_at wild (counted w8 (name_text labels) ++ rest) ≡ Ok (labels, rest)
-unfolding labels_at
-labels_again wild labels rest is =
-    let text = name_text labels in
-    let cut : labels_of text ≡ labels = cut_again labels (left_holds _ _ is) in
-    bind_is (counted_at w8 (counted w8 text ++ rest)) (text, rest) (labels_behind wild (length (counted w8 text ++ rest))) (Ok (labels, rest))
-    (counted_again w8 (2 ^ 8) wide8 text rest (omega (arith, name_size wild labels is)))
-    (rw (cut, is) refl)
-
-name_again : (name : Name) (rest : List ℕ) → IsTrue (is_name name.wild name.labels)
-    → name_at ((truth name.wild ++ counted w8 (name_text name.labels)) ++ rest) ≡ Ok (Dns name, rest)
+name_again : (name : Name) (rest : List ℕ) → IsTarget (Dns name) → name_at ((truth name.wild ++ counted w8 (labels_text name.labels)) ++ rest) ≡ Ok (Dns name, rest)
 unfolding name_at
 name_again name rest is =
-    bind_is (truth_at (truth name.wild ++ (counted w8 (name_text name.labels) ++ rest))) (name.wild, counted w8 (name_text name.labels) ++ rest) _ (Ok (Dns name, rest))
-    (truth_again name.wild (counted w8 (name_text name.labels) ++ rest))
-    (bind_is (labels_at name.wild (counted w8 (name_text name.labels) ++ rest)) (name.labels, rest) _ (Ok (Dns name, rest)) (labels_again name.wild name.labels rest is) refl)
+    bind_is (truth_at (truth name.wild ++ (counted w8 (labels_text name.labels) ++ rest))) (name.wild, counted w8 (labels_text name.labels) ++ rest) _ (Ok (Dns name, rest))
+    (truth_again name.wild (counted w8 (labels_text name.labels) ++ rest)) (text_again name rest is)
 
 target_again : (target : Target) (rest : List ℕ) → IsTarget target → target_at (target_bytes target ++ rest) ≡ Ok (target, rest)
 unfolding target_at v4_at v6_at

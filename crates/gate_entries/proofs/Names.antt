@@ -1,124 +1,156 @@
--- Texts cut at their dots, and put together again.
-use Rattle.std.proofs.Common.{◌≡◌, ◌≢◌, ℕ, ◌<◌, ◌≤◌, Bool, true, false, ◌&&◌, List, [], ◌∷◌, ◌++◌, eqb, ltb, leb, cond, refl, sym, ap, subst, ◌∙◌, arith, append_assoc, append-nil}
-use Rattle.std.specs.List.{list_all}
-use Rattle.std.proofs.lemmas.Bool.{eqb-true, lt-ltb, le-leb}
-use Rattle.std.proofs.lemmas.Bool.Decides.{nat_tests}
-use Rattle.gate_entries.specs.Name.{name_text, with_byte, labels_of, is_label_byte, is_label}
+-- Names and their one text.
+use Rattle.std.proofs.Common.{◌≡◌, ◌≢◌, ℕ, ◌+◌, ◌≤◌, Bool, true, false, cond, List, [], ◌∷◌, ◌++◌, length, codes, Option, Some, None, Result, Ok, Err, refl, sym, ap, subst, ◌∙◌, inl, inr, arith, append_assoc, append-nil, length-append}
+use Rattle.std.specs.Prelude.{bytes_eq, nat_lt, IfSome, IfNone, if◌then◌else◌}
+use Rattle.std.specs.List.{flat_map}
+use Rattle.std.proofs.lemmas.Bool.{ltb-false, cases_Bool, cond-true, cond-false}
+use Rattle.std.proofs.lemmas.List.{append_cancel_left}
+use Rattle.std.proofs.lemmas.List.Concat.{flat_map-cons}
+use Rattle.std.proofs.lemmas.Slice.Eq.{bytes_eq-Decides}
+use Rattle.gate_base.specs.declared.name.Name.{Name}
+use Rattle.gate_base.specs.declared.name.Target.TheVariants.{Dns}
+use Rattle.names_core.specs.declared.fault.NameFault.{NameFault}
+use Rattle.names_core.specs.declared.fault.NameFault.TheVariants.{Empty, LongLabel, LongName}
+use Rattle.names_core.specs.Name.{labels_break, labels_of, name_of, name_read, unless}
+use Rattle.names_core.specs.Target.{name_text}
+use Rattle.gate_entries.specs.Spelling.{labels_text, IsTarget}
+use Rattle.gate_entries.specs.Reading.{if_its_text, name_with, as_said, name_behind}
 
--- labels that are done, one that is begun, and those of what is still to be read
-abbrev pub begun : List (List ℕ) → List ℕ → List (List ℕ) → List (List ℕ)
-begun done label [] = done ++ label ∷ []
-begun done label (next ∷ labels) = done ++ (label ++ next) ∷ labels
+-- ---- how long a name's text is
 
--- a text has a first label
-record HasFirst (labels : List (List ℕ)) : Type 0 where
-  first : List ℕ
-  others : List (List ℕ)
-  whole : labels ≡ first ∷ others
+-- where a value is read, the third of the rules is kept
+third_kept : (a b c : Bool) (x y z : NameFault) (rest : Option NameFault) (value read : Name)
+    → unless (cond a (Some x) (cond b (Some y) (cond c (Some z) rest))) value ≡ Ok read → c ≡ false
+third_kept true b c x y z rest value read is = absurd cc
+third_kept false true c x y z rest value read is = absurd cc
+third_kept false false true x y z rest value read is = absurd cc
+third_kept false false false x y z rest value read is = refl
 
-first_with_byte : (byte : ℕ) (labels : List (List ℕ)) → HasFirst (with_byte byte labels)
-first_with_byte byte [] = record { first = byte ∷ []; others = []; whole = refl }
-first_with_byte byte (label ∷ labels) = record { first = byte ∷ label; others = labels; whole = refl }
+-- no name is read from a text that is too long
+read_size : (text : List ℕ) (name : Name) → name_read text ≡ Ok name → length text ≤ 253
+read_size text name is =
+    let long = third_kept (labels_break Empty (length text) (labels_of text)) (labels_break LongLabel (length text) (labels_of text)) (nat_lt 253 (length text)) Empty LongLabel LongName _ (name_of text) name is in
+    ltb-false 253 (length text) long
 
-first_of_text : (text : List ℕ) → HasFirst (labels_of text)
-first_of_text [] = record { first = []; others = []; whole = refl }
-first_of_text (byte ∷ bytes) = elim (eqb byte 46) as (λ dot. HasFirst (cond dot ([] ∷ labels_of bytes) (with_byte byte (labels_of bytes)))) [
-  | true ↦ record { first = []; others = labels_of bytes; whole = refl }
-  | false ↦ first_with_byte byte (labels_of bytes)
-]
+pub text_size : (name : Name) → IsTarget (Dns name) → length (labels_text name.labels) ≤ 253
+text_size name is =
+    let front = if name.wild then codes "*." else [] in
+    omega (arith, read_size (name_text name) name is, length-append front (labels_text name.labels))
 
-pub begins : (text : List ℕ) → begun [] [] (labels_of text) ≡ labels_of text
-begins text = let first = first_of_text text in rw first.whole refl
+-- the first label, and the others with a full stop before each
+labels_joined : (label : List ℕ) (labels : List (List ℕ)) → labels_text (label ∷ labels) ≡ label ++ flat_map (λ next. 46 ∷ next) labels
+labels_joined label [] = sym (append-nil label)
+labels_joined label (next ∷ labels) =
+    ap (λ (text : List ℕ). label ++ 46 ∷ text) (labels_joined next labels) ∙ ap (λ (text : List ℕ). label ++ text) (sym (flat_map-cons (λ next. 46 ∷ next) next labels))
 
-after_dot : (done : List (List ℕ)) (label : List ℕ) (labels : List (List ℕ)) → HasFirst labels → begun (done ++ label ∷ []) [] labels ≡ begun done label ([] ∷ labels)
-after_dot done label labels first = rw first.whole (append_assoc done (label ∷ []) (first.first ∷ first.others) ∙ ap (λ (l : List ℕ). done ++ l ∷ first.first ∷ first.others) (sym (append-nil label)))
+pub labels_behind : (out label : List ℕ) (labels : List (List ℕ)) → (out ++ label) ++ flat_map (λ next. 46 ∷ next) labels ≡ out ++ labels_text (label ∷ labels)
+labels_behind out label labels = append_assoc out label _ ∙ ap (λ (text : List ℕ). out ++ text) (sym (labels_joined label labels))
 
-pub goes_dot : (done : List (List ℕ)) (label : List ℕ) (byte : ℕ) (bytes : List ℕ) → byte ≡ 46
-    → begun (done ++ label ∷ []) [] (labels_of bytes) ≡ begun done label (labels_of (byte ∷ bytes))
-goes_dot done label byte bytes dot = rw dot (after_dot done label (labels_of bytes) (first_of_text bytes))
+pub labels_length : (label : List ℕ) (labels : List (List ℕ)) → length (labels_text (label ∷ labels)) ≡ length label + length (flat_map (λ next. 46 ∷ next) labels)
+labels_length label labels = ap length (labels_joined label labels) ∙ length-append label (flat_map (λ next. 46 ∷ next) labels)
 
-after_byte : (done : List (List ℕ)) (label : List ℕ) (byte : ℕ) (labels : List (List ℕ)) → HasFirst labels
-    → begun done (label ++ byte ∷ []) labels ≡ begun done label (with_byte byte labels)
-after_byte done label byte labels first = rw first.whole (ap (λ (l : List ℕ). done ++ l ∷ first.others) (append_assoc label (byte ∷ []) first.first))
+-- ---- the name whose one text a text is
 
-pub goes_byte : (done : List (List ℕ)) (label : List ℕ) (byte : ℕ) (bytes : List ℕ) → byte ≢ 46
-    → begun done (label ++ byte ∷ []) (labels_of bytes) ≡ begun done label (labels_of (byte ∷ bytes))
-goes_byte done label byte bytes other =
-    let test : eqb byte 46 ≡ false = grind (arith, nat_tests) in
-    rw test (after_byte done label byte (labels_of bytes) (first_of_text bytes))
+abbrev done : Name → Result Name NameFault
+done name = Ok name
 
-pub ends : (done : List (List ℕ)) (label : List ℕ) → begun done label (labels_of []) ≡ done ++ label ∷ []
-ends done label = ap (λ (l : List ℕ). done ++ l ∷ []) (append-nil label)
+ok_is : (left right : Name) → done left ≡ done right → left ≡ right
+ok_is left right is = cc
 
--- ---- a text is what its labels spell
+some_is : (left right : Name) → Some left ≡ Some right → left ≡ right
+some_is left right is = cc
 
-text_with_byte : (byte : ℕ) (labels : List (List ℕ)) → HasFirst labels → name_text (with_byte byte labels) ≡ byte ∷ name_text labels
-text_with_byte byte labels first = rw first.whole refl
+pub one_text : (left right : Name) → IsTarget (Dns left) → IsTarget (Dns right) → name_text left ≡ name_text right → left ≡ right
+one_text left right is_left is_right same = ok_is left right (sym is_left ∙ ap name_read same ∙ is_right)
 
-text_with_dot : (labels : List (List ℕ)) → HasFirst labels → name_text ([] ∷ labels) ≡ 46 ∷ name_text labels
-text_with_dot labels first = rw first.whole refl
+name_with-text : (name : Name) → IsTarget (Dns name) → name_with (name_text name) ≡ Some name
+unfolding name_with
+name_with-text name is =
+    ap (if_its_text (name_text name)) is ∙ cond-true (bytes_eq (name_text name) (name_text name)) (Some name) None ((bytes_eq-Decides (name_text name) (name_text name)).1 refl)
 
-spelled_again : (byte : ℕ) (bytes : List ℕ) (dot : Bool) → eqb byte 46 ≡ dot → name_text (labels_of bytes) ≡ bytes
-    → name_text (labels_of (byte ∷ bytes)) ≡ byte ∷ bytes
-spelled_again byte bytes true is same =
-    let dot : byte ≡ 46 = grind (arith, nat_tests) in
-    rw is (text_with_dot (labels_of bytes) (first_of_text bytes) ∙ rw (same, dot) refl)
-spelled_again byte bytes false is same = rw is (text_with_byte byte (labels_of bytes) (first_of_text bytes) ∙ ap (λ (l : List ℕ). byte ∷ l) same)
+abbrev HasText : Name → List ℕ → Type 0
+HasText name text = IsTarget (Dns name) × (name_text name ≡ text)
 
-pub name_text-labels_of : (text : List ℕ) → name_text (labels_of text) ≡ text
-name_text-labels_of [] = refl
-name_text-labels_of (byte ∷ bytes) = spelled_again byte bytes (eqb byte 46) refl (name_text-labels_of bytes)
+its_text : (text : List ℕ) (name read : Name) → name_read text ≡ Ok read → if_its_text text (Ok read) ≡ Some name → HasText name text
+its_text text name read is found =
+    elim (cases_Bool (bytes_eq (name_text read) text)) [
+      | inl holds ↦
+          let same : name_text read ≡ text = (bytes_eq-Decides (name_text read) text).0 holds in
+          let one : read ≡ name = some_is read name (sym (cond-true _ (Some read) None holds) ∙ found) in
+          subst (λ (n : Name). HasText n text) one (ap name_read same ∙ is, same)
+      | inr fails ↦
+          let wrong : None ≡ Some name = sym (cond-false _ (Some read) None fails) ∙ found in
+          absurd cc
+    ]
 
--- ---- labels are what their text is cut to
+found_by : (text : List ℕ) (name : Name) (read : Result Name NameFault) → name_read text ≡ read → if_its_text text read ≡ Some name → HasText name text
+found_by text name (Ok read) is found = its_text text name read is found
+found_by text name (Err fault) is found = absurd cc
 
-pub left_holds : (x y : Bool) → (x && y) ≡ true → x ≡ true
-left_holds true y both = refl
-left_holds false y both = absurd cc
+name_with-found : (text : List ℕ) (name : Name) → name_with text ≡ Some name → HasText name text
+unfolding name_with
+name_with-found text name found = found_by text name (name_read text) refl found
 
-pub right_holds : (x y : Bool) → (x && y) ≡ true → y ≡ true
-right_holds true y both = both
-right_holds false y both = absurd cc
-
-no_dot : (byte : ℕ) (dot : Bool) → eqb byte 46 ≡ dot → is_label_byte byte ≡ true → dot ≡ false
-no_dot byte true same ok =
-    let wrong : is_label_byte 46 ≡ true = subst (λ (b : ℕ). is_label_byte b ≡ true) (eqb-true byte 46 same) ok in
+name_with-none : (text : List ℕ) → name_with text ≡ None → (name : Name) → IsTarget (Dns name) → name_text name ≢ text
+name_with-none text none name is same =
+    let wrong : None ≡ Some name = sym none ∙ ap name_with (sym same) ∙ name_with-text name is in
     absurd cc
-no_dot byte false same ok = refl
 
-put_before : (byte : ℕ) (bytes : List ℕ) (labels : List (List ℕ)) → HasFirst labels → with_byte byte (begun [] bytes labels) ≡ begun [] (byte ∷ bytes) labels
-put_before byte bytes labels first = rw first.whole refl
+pub every_found : (text : List ℕ) (found : Option Name) → name_with text ≡ found → IfSome found (λ name. HasText name text)
+every_found text None is = tt
+every_found text (Some name) is = name_with-found text name is
 
-cut_behind : (label text : List ℕ) → list_all is_label_byte label ≡ true → labels_of (label ++ text) ≡ begun [] label (labels_of text)
-cut_behind [] text ok = sym (begins text)
-cut_behind (byte ∷ bytes) text ok =
-    let test : eqb byte 46 ≡ false = no_dot byte (eqb byte 46) refl (left_holds _ _ ok) in
-    let others = cut_behind bytes text (right_holds _ _ ok) in
-    rw test (ap (with_byte byte) others ∙ put_before byte bytes (labels_of text) (first_of_text text))
+pub every_none : (text : List ℕ) (found : Option Name) → name_with text ≡ found → IfNone found ((name : Name) → IsTarget (Dns name) → name_text name ≢ text)
+every_none text None is = name_with-none text is
+every_none text (Some name) is = tt
 
-label_bytes : (label : List ℕ) → is_label label ≡ true → list_all is_label_byte label ≡ true
-label_bytes label ok = right_holds _ _ ok
+-- ---- the same behind the `*.` of a wildcard
 
-pub labels_of-name_text : (label : List ℕ) (labels : List (List ℕ)) → list_all is_label (label ∷ labels) ≡ true → labels_of (name_text (label ∷ labels)) ≡ label ∷ labels
-labels_of-name_text label [] ok =
-    cut_behind label [] (label_bytes label (left_holds _ _ ok)) ∙ ap (λ (l : List ℕ). l ∷ []) (append-nil label)
-labels_of-name_text label (next ∷ labels) ok =
-    let others : labels_of (name_text (next ∷ labels)) ≡ next ∷ labels = labels_of-name_text next labels (right_holds _ _ ok) in
-    let cut = cut_behind label (46 ∷ name_text (next ∷ labels)) (label_bytes label (left_holds _ _ ok)) in
-    cut ∙ ap (λ (l : List (List ℕ)). begun [] label ([] ∷ l)) others ∙ ap (λ (l : List ℕ). l ∷ next ∷ labels) (append-nil label)
+said : (name : Name) (wild : Bool) → name.wild ≡ wild → as_said wild (Some name) ≡ Some name
+said name true is = rw is refl
+said name false is = rw is refl
 
--- labels with one text are the same
-no_text : (label : List ℕ) (labels : List (List ℕ)) → is_label label ≡ true → [] ≡ name_text (label ∷ labels) → ⊥
-no_text [] labels ok same = absurd cc
-no_text (byte ∷ label) labels ok same = absurd cc
+pub name_behind-text : (name : Name) → IsTarget (Dns name) → name_behind name.wild (labels_text name.labels) ≡ Some name
+unfolding name_behind
+name_behind-text name is = ap (as_said name.wild) (name_with-text name is) ∙ said name name.wild refl
 
-pub one_text : (left right : List (List ℕ)) → list_all is_label left ≡ true → list_all is_label right ≡ true → name_text left ≡ name_text right → left ≡ right
-one_text [] [] ok1 ok2 same = refl
-one_text [] (label ∷ labels) ok1 ok2 same = absurd (no_text label labels (left_holds _ _ ok2) same)
-one_text (label ∷ labels) [] ok1 ok2 same = absurd (no_text label labels (left_holds _ _ ok1) (sym same))
-one_text (label ∷ labels) (next ∷ others) ok1 ok2 same =
-    sym (labels_of-name_text label labels ok1) ∙ ap labels_of same ∙ labels_of-name_text next others ok2
+-- what is said is so
+pub record IsSaid (wild : Bool) (text : List ℕ) (name : Name) : Type 0 where
+  pub is : IsTarget (Dns name)
+  pub flag : name.wild ≡ wild
+  pub spelled : labels_text name.labels ≡ text
 
--- ---- tests
+said_true : (found : Option Name) (name : Name) → as_said true found ≡ Some name → (found ≡ Some name) × (name.wild ≡ true)
+said_true None name is = absurd cc
+said_true (Some found) name is =
+    elim (cases_Bool found.wild) [
+      | inl holds ↦
+          let same : Some found ≡ Some name = sym (cond-true _ (Some found) None holds) ∙ is in
+          (same, subst (λ (n : Name). n.wild ≡ true) (some_is found name same) holds)
+      | inr fails ↦
+          let wrong : None ≡ Some name = sym (cond-false _ (Some found) None fails) ∙ is in
+          absurd cc
+    ]
 
-pub within : (size : ℕ) (all : Bool) → 0 < size → size ≤ 63 → (ltb 0 size && leb size 63 && all) ≡ all
-within size all some few = rw (lt-ltb 0 size some, le-leb size 63 few) refl
+said_false : (found : Option Name) (name : Name) → as_said false found ≡ Some name → (found ≡ Some name) × (name.wild ≡ false)
+said_false None name is = absurd cc
+said_false (Some found) name is =
+    elim (cases_Bool found.wild) [
+      | inl holds ↦
+          let wrong : None ≡ Some name = sym (cond-true _ None (Some found) holds) ∙ is in
+          absurd cc
+      | inr fails ↦
+          let same : Some found ≡ Some name = sym (cond-false _ None (Some found) fails) ∙ is in
+          (same, subst (λ (n : Name). n.wild ≡ false) (some_is found name same) fails)
+    ]
+
+pub name_behind-found : (wild : Bool) (text : List ℕ) (name : Name) → name_behind wild text ≡ Some name → IsSaid wild text name
+unfolding name_behind
+name_behind-found true text name found =
+    let both = said_true (name_with (codes "*." ++ text)) name found in
+    let has = name_with-found (codes "*." ++ text) name both.0 in
+    let whole : codes "*." ++ labels_text name.labels ≡ codes "*." ++ text = ap (λ (w : Bool). (if w then codes "*." else []) ++ labels_text name.labels) (sym both.1) ∙ has.1 in
+    record { is = has.0; flag = both.1; spelled = append_cancel_left (codes "*.") (labels_text name.labels) text whole }
+name_behind-found false text name found =
+    let both = said_false (name_with text) name found in
+    let has = name_with-found text name both.0 in
+    record { is = has.0; flag = both.1; spelled = ap (λ (w : Bool). (if w then codes "*." else []) ++ labels_text name.labels) (sym both.1) ∙ has.1 }

@@ -1,6 +1,6 @@
 -- No two entries have one spelling.
-use Rattle.std.proofs.Common.{◌≡◌, ℕ, ◌^◌, ◌<◌, Bool, List, [], ◌∷◌, ◌++◌, length, Result, Ok, refl, sym, ap, ◌∙◌, append_assoc, append-nil, arith}
-use Rattle.std.specs.Prelude.{IsTrue}
+use Rattle.std.proofs.Common.{◌≡◌, ℕ, ◌^◌, ◌<◌, Bool, List, [], ◌∷◌, ◌++◌, length, Result, Ok, refl, sym, ap, ap₂, ◌∙◌, append_assoc, append-nil, arith}
+use Rattle.std.specs.Prelude.{codes, if◌then◌else◌}
 use Rattle.std.specs.List.{flat_map, AllByRecursion}
 use Rattle.std.specs.Int.{Width, w8, w16, w32, w64, to_be_bytes}
 use Rattle.gate_base.specs.declared.name.Address.TheVariants.{V4, V6}
@@ -10,11 +10,10 @@ use Rattle.gate_base.specs.declared.name.Target.TheVariants.{Dns, Ip}
 use Rattle.gate_entries.specs.declared.entry.Entry.{Entry}
 use Rattle.gate_entries.specs.declared.entry.What.{What}
 use Rattle.gate_entries.specs.declared.entry.What.TheVariants.{Settings, Order, Send, Signed, Blocked}
-use Rattle.gate_entries.specs.Name.{name_text, is_name}
-use Rattle.gate_entries.specs.Spelling.{counted, truth, target_bytes, targets_bytes, kind_of, what_bytes, entry_bytes, IsTarget, IsWhat, IsEntry}
+use Rattle.names_core.specs.Target.{name_text}
+use Rattle.gate_entries.specs.Spelling.{counted, truth, labels_text, target_bytes, targets_bytes, kind_of, what_bytes, entry_bytes, IsTarget, IsWhat, IsEntry}
 use Rattle.gate_entries.specs.Reading.{bytes_at, number_at, counted_at, truth_at}
-use Rattle.gate_entries.proofs.Names.{left_holds, right_holds, one_text}
-use Rattle.gate_entries.proofs.Sizes.{name_size}
+use Rattle.gate_entries.proofs.Names.{text_size, one_text}
 use Rattle.gate_entries.proofs.Fields.{IsWide, ok_is, wide8, wide16, wide32, wide64}
 use Rattle.gate_entries.proofs.Again.{bytes_again, number_again, counted_again, truth_again, pieces_behind}
 
@@ -46,16 +45,18 @@ heads x y s t same = (cc, cc)
 
 -- ---- targets
 
-one_name : (left right : Name) (s t : List ℕ) → IsTrue (is_name left.wild left.labels) → IsTrue (is_name right.wild right.labels)
-    → truth left.wild ++ (counted w8 (name_text left.labels) ++ s) ≡ truth right.wild ++ (counted w8 (name_text right.labels) ++ t) → (left ≡ right) × (s ≡ t)
+-- a wildcard or none, and the text, are the whole text
+whole : (left right : Name) → left.wild ≡ right.wild → labels_text left.labels ≡ labels_text right.labels → name_text left ≡ name_text right
+whole left right wild labels = ap₂ (λ (w : Bool) (text : List ℕ). (if w then codes "*." else []) ++ text) wild labels
+
+one_name : (left right : Name) (s t : List ℕ) → IsTarget (Dns left) → IsTarget (Dns right)
+    → truth left.wild ++ (counted w8 (labels_text left.labels) ++ s) ≡ truth right.wild ++ (counted w8 (labels_text right.labels) ++ t) → (left ≡ right) × (s ≡ t)
 one_name left right s t is1 is2 same =
-    let wild = one_truth left.wild right.wild (counted w8 (name_text left.labels) ++ s) (counted w8 (name_text right.labels) ++ t) same in
-    let size1 = name_size left.wild left.labels is1 in
-    let size2 = name_size right.wild right.labels is2 in
-    let text = one_counted w8 (2 ^ 8) wide8 (name_text left.labels) (name_text right.labels) s t (omega (arith, size1)) (omega (arith, size2)) wild.1 in
-    let labels = one_text left.labels right.labels (right_holds _ _ (left_holds _ _ is1)) (right_holds _ _ (left_holds _ _ is2)) text.0 in
-    let made : Bool → List (List ℕ) → Name = λ (w : Bool) (l : List (List ℕ)). record { labels = l; wild = w } in
-    (ap (λ (w : Bool). made w left.labels) wild.0 ∙ ap (λ (l : List (List ℕ)). made right.wild l) labels, text.1)
+    let wild = one_truth left.wild right.wild (counted w8 (labels_text left.labels) ++ s) (counted w8 (labels_text right.labels) ++ t) same in
+    let size1 = text_size left is1 in
+    let size2 = text_size right is2 in
+    let text = one_counted w8 (2 ^ 8) wide8 (labels_text left.labels) (labels_text right.labels) s t (omega (arith, size1)) (omega (arith, size2)) wild.1 in
+    (one_text left right is1 is2 (whole left right wild.0 text.0), text.1)
 
 one_target : (left right : Target) (s t : List ℕ) → IsTarget left → IsTarget right → target_bytes left ++ s ≡ target_bytes right ++ t → (left ≡ right) × (s ≡ t)
 one_target (Dns left) (Dns right) s t is1 is2 same = let one = one_name left right s t is1 is2 (heads _ _ _ _ same).1 in (ap Dns one.0, one.1)

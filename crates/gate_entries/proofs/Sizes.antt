@@ -1,9 +1,8 @@
 -- How long spellings are.
-use Rattle.std.proofs.Common.{◌≡◌, ℕ, ◌+◌, ◌*◌, ◌^◌, ◌<◌, ◌≤◌, Bool, true, false, ◌&&◌, List, [], ◌∷◌, ◌++◌, length, Option, Some, None, subst, refl, ap, ◌∙◌, arith, length-append}
-use Rattle.std.specs.Prelude.{IsTrue, IfSome, option_map, sum_by, if◌then◌else◌}
+use Rattle.std.proofs.Common.{◌≡◌, ℕ, ◌+◌, ◌*◌, ◌^◌, ◌<◌, ◌≤◌, Bool, List, [], ◌∷◌, ◌++◌, length, Option, Some, None, subst, refl, ap, ◌∙◌, arith, length-append}
+use Rattle.std.specs.Prelude.{IfSome, option_map, sum_by}
 use Rattle.std.specs.List.{flat_map, AllByRecursion}
 use Rattle.std.specs.Int.{w8, w16, w32, w64, to_be_bytes}
-use Rattle.std.proofs.lemmas.Bool.{leb-true}
 use Rattle.std.proofs.lemmas.List.Concat.{flat_map-cons}
 use Rattle.std.proofs.lemmas.List.Sums.{sum_by-cons}
 use Rattle.gate_base.specs.declared.moment.Moment.{Moment}
@@ -16,26 +15,13 @@ use Rattle.gate_entries.specs.declared.command.Command.TheVariants as commands
 use Rattle.gate_entries.specs.declared.entry.Entry.{Entry}
 use Rattle.gate_entries.specs.declared.entry.What.{What}
 use Rattle.gate_entries.specs.declared.entry.What.TheVariants as whats
-use Rattle.gate_entries.specs.Name.{name_text, is_name}
 use Rattle.gate_entries.specs.Spelling.{counted, truth, target_bytes, targets_bytes, kind_of, what_bytes, entry_bytes, IsTarget, IsOrder, HasCaller, IsWhat, IsEntry}
 use Rattle.gate_entries.specs.Fits.{TargetFits, FieldsFit, target_length, Fits}
 use Rattle.gate_entries.specs.Command.{settings_entry, what_of, entry_with, entry_for, IsAskedOrder, IsCommand, HasNames, IsCaller}
-
-second : (x y : Bool) → IsTrue (x && y) → y ≡ true
-second true y both = both
-second false y both = absurd cc
-
-most : (wild : Bool) → (if wild then 251 else 253) ≤ 253
-most true = omega arith
-most false = omega arith
-
-pub name_size : (wild : Bool) (labels : List (List ℕ)) → IsTrue (is_name wild labels) → length (name_text labels) ≤ 253
-name_size wild labels is =
-    let fits : length (name_text labels) ≤ (if wild then 251 else 253) = leb-true _ _ (second _ _ is) in
-    omega (arith, fits, most wild)
+use Rattle.gate_entries.proofs.Names.{text_size}
 
 target_size : (target : Target) → IsTarget target → length (target_bytes target) ≤ 256
-target_size (Dns name) is = omega (arith, name_size name.wild name.labels is, length-append {A = ℕ})
+target_size (Dns name) is = omega (arith, text_size name is, length-append {A = ℕ})
 target_size (Ip (V4 octets)) is = omega arith
 target_size (Ip (V6 octets)) is = omega arith
 

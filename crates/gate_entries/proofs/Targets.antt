@@ -1,18 +1,17 @@
 -- Names, addresses and targets that are read are those that were written.
-use Rattle.std.proofs.Common.{◌≡◌, ℕ, zero, suc, ◌^◌, Bool, true, false, cond, eqb, List, [], ◌∷◌, length, Result, Ok, Err, refl, sym, ap, subst, ◌⊎◌, inl, inr}
-use Rattle.std.specs.Prelude.{IsTrue}
+use Rattle.std.proofs.Common.{◌≡◌, ℕ, zero, suc, ◌^◌, Bool, true, false, cond, eqb, List, [], ◌∷◌, length, Option, Some, None, Result, Ok, Err, refl, sym, ap, subst, ◌⊎◌, inl, inr}
 use Rattle.std.specs.List.{flat_map, AllByRecursion}
 use Rattle.std.specs.Int.{w8}
 use Rattle.std.proofs.lemmas.Bool.{eqb-true}
 use Rattle.std.proofs.lemmas.List.Concat.{flat_map-cons}
 use Rattle.gate_base.specs.declared.name.Address.TheVariants.{V4, V6}
+use Rattle.gate_base.specs.declared.name.Name.{Name}
 use Rattle.gate_base.specs.declared.name.Target.{Target}
 use Rattle.gate_base.specs.declared.name.Target.TheVariants.{Dns, Ip}
-use Rattle.gate_entries.specs.Name.{name_text, labels_of, is_name}
-use Rattle.gate_entries.specs.Spelling.{counted, target_bytes, IsTarget}
-use Rattle.gate_entries.specs.Reading.{bytes_at, counted_at, truth_at, labels_behind, labels_at, name_at, v4_at, v6_at, target_at, targets_at}
-use Rattle.gate_entries.proofs.Names.{name_text-labels_of}
-use Rattle.gate_entries.proofs.Fields.{IsBytes, IsBytes-rest, bind_ok, guard_met, as_made, Takes, takes_both, takes_behind, bytes_takes, wide8, counted_takes, truth_takes}
+use Rattle.gate_entries.specs.Spelling.{counted, truth, labels_text, target_bytes, IsTarget}
+use Rattle.gate_entries.specs.Reading.{bytes_at, counted_at, truth_at, name_behind, target_or, text_at, name_at, v4_at, v6_at, target_at, targets_at}
+use Rattle.gate_entries.proofs.Names.{IsSaid, name_behind-found}
+use Rattle.gate_entries.proofs.Fields.{IsBytes, IsBytes-rest, bind_ok, ok_is, as_made, Takes, takes_both, takes_behind, bytes_takes, wide8, counted_takes, truth_takes}
 
 -- which way a test went
 pub chosen : {A : Type 0} (b : Bool) (x y z : A) → cond b x y ≡ z → ((b ≡ true) × (x ≡ z)) ⊎ ((b ≡ false) × (y ≡ z))
@@ -23,31 +22,40 @@ pub only_met : {A : Type 0} (b : Bool) (left : ℕ) (r : Result A ℕ) (y : A) �
 only_met true left r y e = (refl, e)
 only_met false left r y e = absurd cc
 
-labels_takes : (wild : Bool) (bytes : List ℕ) (x : List (List ℕ) × List ℕ) → IsBytes bytes → labels_at wild bytes ≡ Ok x
-    → Takes bytes (counted w8 (name_text x.0)) x.1 × IsTrue (is_name wild x.0)
-unfolding labels_at
-labels_takes wild bytes x small e =
-    let step = bind_ok (counted_at w8 bytes) (labels_behind wild (length bytes)) x e in
-    let text = step.0 in
-    let takes = counted_takes w8 (2 ^ 8) wide8 bytes text small step.1 in
-    let g = guard_met (is_name wild (labels_of text.0)) (length bytes) (labels_of text.0, text.1) x step.2 in
-    let spelled : Takes bytes (counted w8 (name_text (labels_of text.0))) text.1 = subst (λ (t : List ℕ). Takes bytes (counted w8 t) text.1) (sym (name_text-labels_of text.0)) takes.0 in
-    subst (λ (y : List (List ℕ) × List ℕ). Takes bytes (counted w8 (name_text y.0)) y.1 × IsTrue (is_name wild y.0)) g.1 (spelled, g.0)
-
 -- what stands behind a target's kind
 abbrev TakesTarget : ℕ → List ℕ → Target × List ℕ → Type 0
 TakesTarget kind bytes x = Takes (kind ∷ bytes) (target_bytes x.0) x.1 × IsTarget x.0
+
+-- the name that was found, and what stands behind it
+found_met : (left : ℕ) (rest : List ℕ) (found : Option Name) (x : Target × List ℕ) → target_or left rest found ≡ Ok x → (name : Name) × (found ≡ Some name) × ((Dns name, rest) ≡ x)
+found_met left rest None x e = absurd cc
+found_met left rest (Some name) x e = (name, refl, ok_is (Dns name, rest) x e)
+
+text_takes : (wild : Bool) (bytes : List ℕ) (x : Target × List ℕ) → IsBytes bytes → text_at wild bytes ≡ Ok x
+    → (name : Name) × (x.0 ≡ Dns name) × IsSaid wild (labels_text name.labels) name × Takes bytes (counted w8 (labels_text name.labels)) x.1
+unfolding text_at
+text_takes wild bytes x small e =
+    let text = bind_ok (counted_at w8 bytes) _ x e in
+    let takes = counted_takes w8 (2 ^ 8) wide8 bytes text.0 small text.1 in
+    let met = found_met (length bytes) text.0.1 (name_behind wild text.0.0) x text.2 in
+    let said = name_behind-found wild text.0.0 met.0 met.1 in
+    let spelled : Takes bytes (counted w8 (labels_text met.0.labels)) text.0.1 = subst (λ (t : List ℕ). Takes bytes (counted w8 t) text.0.1) (sym said.spelled) takes.0 in (
+      met.0,
+      ap (λ (y : Target × List ℕ). y.0) (sym met.2),
+      record { is = said.is; flag = said.flag; spelled = refl },
+      subst (λ (rest : List ℕ). Takes bytes (counted w8 (labels_text met.0.labels)) rest) (ap (λ (y : Target × List ℕ). y.1) met.2) spelled,
+    )
 
 name_takes : (bytes : List ℕ) (x : Target × List ℕ) → IsBytes bytes → name_at bytes ≡ Ok x → TakesTarget 1 bytes x
 unfolding name_at
 name_takes bytes x small e =
     let wild = bind_ok (truth_at bytes) _ x e in
-    let labels = bind_ok (labels_at wild.0.0 wild.0.1) _ x wild.2 in
     let first = truth_takes bytes wild.0 small wild.1 in
-    let second = labels_takes wild.0.0 wild.0.1 labels.0 first.small labels.1 in
-    let both = takes_both first second.0 in
-    let made : Target × List ℕ = (Dns (record { labels = labels.0.0; wild = wild.0.0 }), labels.0.1) in
-    as_made (TakesTarget 1 bytes) made x labels.2 (takes_behind both, second.1)
+    let second = text_takes wild.0.0 wild.0.1 x first.small wild.2 in
+    let name = second.0 in
+    let flag : Takes bytes (truth name.wild) wild.0.1 = subst (λ (w : Bool). Takes bytes (truth w) wild.0.1) (sym second.2.flag) first in
+    let both = takes_both flag second.3 in
+    subst (λ (target : Target). TakesTarget 1 bytes (target, x.1)) (sym second.1) (takes_behind both, second.2.is)
 
 v4_takes : (bytes : List ℕ) (x : Target × List ℕ) → IsBytes bytes → v4_at bytes ≡ Ok x → TakesTarget 2 bytes x
 unfolding v4_at

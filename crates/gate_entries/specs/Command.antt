@@ -51,7 +51,7 @@ IsCommand (commands.Order key targets days common request) = IsAskedOrder key ta
 IsCommand (commands.Finalize order) = Unit {0}
 IsCommand (commands.Block key spki) = IsAskedBlock key spki
 
--- each name of the command keeps the rule of names
+-- each target of the command has a spelling
 abbrev pub HasNames : Command → Type 0
 HasNames (commands.Order key targets days common request) = AllByRecursion IsTarget targets
 HasNames command = Unit {0}

@@ -6,13 +6,12 @@ use Rattle.gate_base.specs.declared.name.Target.{Target}
 use Rattle.gate_base.specs.declared.name.Target.TheVariants.{Dns, Ip}
 use Rattle.gate_entries.specs.declared.command.Command.{Command}
 use Rattle.gate_entries.specs.declared.command.Command.TheVariants as commands
-use Rattle.gate_entries.specs.Name.{name_text}
-use Rattle.gate_entries.specs.Spelling.{most_bytes}
+use Rattle.gate_entries.specs.Spelling.{labels_text, most_bytes}
 use Rattle.gate_entries.specs.Command.{IsAskedBlock}
 
--- a name's text is counted by one byte
+-- a name's text without `*.` is counted by one byte
 abbrev pub TargetFits : Target → Type 0
-TargetFits (Dns name) = length (name_text name.labels) < 2 ^ 8
+TargetFits (Dns name) = length (labels_text name.labels) < 2 ^ 8
 TargetFits (Ip address) = Unit {0}
 
 pub record OrderFits (key : List ℕ) (targets : List Target) (request : List ℕ) : Type 0 where
@@ -28,7 +27,7 @@ FieldsFit (commands.Block key spki) = IsAskedBlock key spki
 
 -- how many bytes a target takes in an entry
 abbrev pub target_length : Target → ℕ
-target_length (Dns name) = 3 + length (name_text name.labels)
+target_length (Dns name) = 3 + length (labels_text name.labels)
 target_length (Ip (V4 octets)) = 5
 target_length (Ip (V6 octets)) = 17
 

@@ -1,4 +1,3 @@
-pub mod Name
 pub mod Spelling
 pub mod Reading
 pub mod Command

@@ -1,10 +1,14 @@
 -- Reading an entry from left to right, with the first field that is cut off or breaks a rule. While fields are read, a fault is
 -- the number of bytes that were left where its field began.
-use Rattle.std.specs.Prelude.{◌≡◌, ℕ, zero, suc, ◌-◌, ◌≤◌, List, [], ◌∷◌, length, take, drop, Bool, true, false, Result, Ok, Err, nat_lt, ◌==◌, ◌&&◌, ◌||◌, if◌then◌else◌}
+use Rattle.std.specs.Prelude.{◌≡◌, ℕ, zero, suc, ◌-◌, ◌≤◌, List, [], ◌∷◌, ◌++◌, length, take, drop, codes, bytes_eq, Bool, true, false, Option, Some, None, Result, Ok, Err, nat_lt, ◌==◌, ◌&&◌, ◌||◌, if◌then◌else◌}
 use Rattle.std.specs.Int.{Width, w8, w16, w32, w64, byte_len, from_be_bytes}
 use Rattle.gate_base.specs.declared.name.Address.TheVariants.{V4, V6}
+use Rattle.gate_base.specs.declared.name.Name.{Name}
 use Rattle.gate_base.specs.declared.name.Target.{Target}
 use Rattle.gate_base.specs.declared.name.Target.TheVariants.{Dns, Ip}
+use Rattle.names_core.specs.declared.fault.NameFault.{NameFault}
+use Rattle.names_core.specs.Name.{name_read}
+use Rattle.names_core.specs.Target.{name_text}
 use Rattle.gate_entries.specs.declared.entry.Entry.{Entry}
 use Rattle.gate_entries.specs.declared.entry.What.{What}
 use Rattle.gate_entries.specs.declared.entry.What.TheVariants.{Settings, Order, Send, Signed, Blocked}
@@ -12,7 +16,6 @@ use Rattle.gate_entries.specs.declared.fault.EntryRead.{EntryRead}
 use Rattle.gate_entries.specs.declared.fault.EntryRead.TheVariants as reads
 use Rattle.gate_entries.specs.declared.fault.FieldFault.{FieldFault}
 use Rattle.gate_entries.specs.declared.fault.FieldFault.TheVariants as fields
-use Rattle.gate_entries.specs.Name.{labels_of, is_name}
 use Rattle.gate_entries.specs.Spelling.{most_bytes}
 
 infixl 10 ◌>>=◌
@@ -60,18 +63,38 @@ truth_at (zero ∷ rest) = Ok (false, rest)
 truth_at (suc zero ∷ rest) = Ok (true, rest)
 truth_at (suc (suc value) ∷ rest) = Err (suc (length rest))
 
--- a name's text, read to its labels
-abbrev pub labels_behind : Bool → ℕ → List ℕ × List ℕ → Read (List (List ℕ))
-labels_behind wild left text = if is_name wild (labels_of text.0) then Ok (labels_of text.0, text.1) else Err left
+-- ---- names
 
-unfoldable pub labels_at : Bool → List ℕ → Read (List (List ℕ))
-labels_at wild bytes = counted_at w8 bytes >>= labels_behind wild (length bytes)
+-- the name that was read, where the text is its one text
+abbrev pub if_its_text : List ℕ → Result Name NameFault → Option Name
+if_its_text text (Ok name) = if bytes_eq (name_text name) text then Some name else None
+if_its_text text (Err fault) = None
+
+-- the name whose one text this is
+unfoldable pub name_with : List ℕ → Option Name
+name_with text = if_its_text text (name_read text)
+
+-- the name, where it is a wildcard or none as was said
+abbrev pub as_said : Bool → Option Name → Option Name
+as_said true (Some name) = if name.wild then Some name else None
+as_said false (Some name) = if name.wild then None else Some name
+as_said wild None = None
+
+-- the name that has this text, behind `*.` where it is a wildcard
+unfoldable pub name_behind : Bool → List ℕ → Option Name
+name_behind wild text = as_said wild (name_with ((if wild then codes "*." else []) ++ text))
+
+abbrev pub target_or : ℕ → List ℕ → Option Name → Read Target
+target_or left rest (Some name) = Ok (Dns name, rest)
+target_or left rest None = Err left
+
+unfoldable pub text_at : Bool → List ℕ → Read Target
+text_at wild bytes = counted_at w8 bytes >>= λ text. target_or (length bytes) text.1 (name_behind wild text.0)
 
 unfoldable pub name_at : List ℕ → Read Target
-name_at bytes = do
-  wild ← truth_at bytes
-  labels ← labels_at wild.0 wild.1
-  Ok (Dns (record { labels = labels.0; wild = wild.0 }), labels.1)
+name_at bytes = truth_at bytes >>= λ wild. text_at wild.0 wild.1
+
+-- ---- addresses, and targets of each kind
 
 unfoldable pub v4_at : List ℕ → Read Target
 v4_at bytes = bytes_at 4 bytes >>= λ octets. Ok (Ip (V4 octets.0), octets.1)

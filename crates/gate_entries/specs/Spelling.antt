@@ -1,15 +1,16 @@
 -- The one spelling of each entry. Numbers are big-endian; bytes are counted by a number in front of them.
-use Rattle.std.specs.Prelude.{◌≡◌, ℕ, ◌<◌, ◌≤◌, ◌^◌, List, [], ◌∷◌, ◌++◌, length, Bool, IsTrue, if◌then◌else◌}
-use Rattle.std.specs.List.{flat_map, AllByRecursion}
+use Rattle.std.specs.Prelude.{◌≡◌, ℕ, ◌<◌, ◌≤◌, ◌^◌, List, [], ◌∷◌, ◌++◌, length, Bool, Ok, if◌then◌else◌}
+use Rattle.std.specs.List.{flat_map, join_with_byte, AllByRecursion}
 use Rattle.std.specs.Int.{Width, w8, w16, w32, w64, to_be_bytes}
 use Rattle.gate_base.specs.declared.name.Address.TheVariants.{V4, V6}
 use Rattle.gate_base.specs.declared.name.Name.{Name}
 use Rattle.gate_base.specs.declared.name.Target.{Target}
 use Rattle.gate_base.specs.declared.name.Target.TheVariants.{Dns, Ip}
+use Rattle.names_core.specs.Name.{name_read}
+use Rattle.names_core.specs.Target.{name_text}
 use Rattle.gate_entries.specs.declared.entry.Entry.{Entry}
 use Rattle.gate_entries.specs.declared.entry.What.{What}
 use Rattle.gate_entries.specs.declared.entry.What.TheVariants.{Settings, Order, Send, Signed, Blocked}
-use Rattle.gate_entries.specs.Name.{name_text, is_name}
 
 -- how many bytes there are, and the bytes
 abbrev pub counted : Width → List ℕ → List ℕ
@@ -19,9 +20,13 @@ counted width bytes = to_be_bytes width (length bytes) ++ bytes
 abbrev pub truth : Bool → List ℕ
 truth value = (if value then 1 else 0) ∷ []
 
+-- the labels with a full stop between two, which is a name's text without the `*.` of a wildcard
+abbrev pub labels_text : List (List ℕ) → List ℕ
+labels_text labels = join_with_byte 46 labels
+
 -- 1, whether it is a wildcard, and the name's text without `*.`
 abbrev pub name_bytes : Name → List ℕ
-name_bytes name = (1 ∷ []) ++ truth name.wild ++ counted w8 (name_text name.labels)
+name_bytes name = (1 ∷ []) ++ truth name.wild ++ counted w8 (labels_text name.labels)
 
 -- a name; 2 and an IPv4 address; 3 and an IPv6 address
 abbrev pub target_bytes : Target → List ℕ
@@ -56,8 +61,9 @@ entry_bytes entry =
 
 -- ---- what has a spelling
 
+-- a name is the one that its own text is read to
 abbrev pub IsTarget : Target → Type 0
-IsTarget (Dns name) = IsTrue (is_name name.wild name.labels)
+IsTarget (Dns name) = name_read (name_text name) ≡ Ok name
 IsTarget (Ip (V4 octets)) = length octets ≡ 4
 IsTarget (Ip (V6 octets)) = length octets ≡ 16
 

@@ -1,8 +1,8 @@
 //! Whether a command's sizes can be spelled.
 ghost use Rattle.std.specs.Prelude.{◌<◌, ◌≤◌, ◌^◌, ◌∷◌, ◌↔◌, length, IsTrue};
 ghost use Rattle.std.specs.List.{flat_map, AllByRecursion};
-ghost use Rattle.gate_entries.specs.Name.{name_text};
 ghost use Rattle.gate_entries.specs.Command.{HasNames, IsCommand};
+ghost use Rattle.gate_entries.specs.Spelling.{labels_text};
 ghost use Rattle.gate_entries.specs.Fits.{TargetFits, FieldsFit, Fits};
 
 use crate::command::Command;
@@ -64,14 +64,15 @@ fn target_fits(target: &Target) -> bool
     }
 }
 
+#[tactic(auto, using(crate::proofs::Names::labels_length))]
 fn text_fits(labels: &Labels) -> bool
-    ensures { IsTrue result ↔ (length (name_text labels.now) < 2 ^ 8) }
+    ensures { IsTrue result ↔ (length (labels_text labels.now) < 2 ^ 8) }
 {
-    match labels.as_slice() {
-        [] => true,
-        [first, others @ ..] => {
+    match labels.as_slice().split_first() {
+        Some((first, others)) => {
             first.len() <= MOST_COUNTED8 && others_fit(others, MOST_COUNTED8 - first.len())
         }
+        None => true,
     }
 }
 

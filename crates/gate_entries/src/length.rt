@@ -1,8 +1,7 @@
 //! How long an entry's spelling is.
 ghost use Rattle.std.specs.Prelude.{◌≡◌, ◌≤◌, ◌∷◌, length};
 ghost use Rattle.std.specs.List.{flat_map, AllByRecursion};
-ghost use Rattle.gate_entries.specs.Name.{name_text};
-ghost use Rattle.gate_entries.specs.Spelling.{target_bytes, what_bytes, entry_bytes, IsTarget, IsWhat, IsEntry};
+ghost use Rattle.gate_entries.specs.Spelling.{labels_text, target_bytes, what_bytes, entry_bytes, IsTarget, IsWhat, IsEntry};
 
 use crate::entry::{Entry, What};
 use gate_base::{Address, Bytes, Labels, Target};
@@ -49,6 +48,7 @@ fn targets_len(targets: &[Target]) -> u64
     total
 }
 
+#[tactic(auto, using(crate::proofs::Names::text_size))]
 fn target_len(target: &Target) -> u64
     requires { IsTarget target.now }
     ensures { result ≡ length (target_bytes target.now) }
@@ -60,14 +60,15 @@ fn target_len(target: &Target) -> u64
     }
 }
 
-/// The length of a name's text.
+/// The length of a name's text without `*.`.
+#[tactic(auto, using(crate::proofs::Names::labels_length))]
 fn text_len(labels: &Labels) -> u64
-    requires { length (name_text labels.now) ≤ 253 }
-    ensures { result ≡ length (name_text labels.now) }
+    requires { length (labels_text labels.now) ≤ 253 }
+    ensures { result ≡ length (labels_text labels.now) }
 {
-    match labels.as_slice() {
-        [] => 0,
-        [first, others @ ..] => first.len() as u64 + others_len(others),
+    match labels.as_slice().split_first() {
+        Some((first, others)) => first.len() as u64 + others_len(others),
+        None => 0,
     }
 }
 

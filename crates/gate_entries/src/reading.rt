@@ -1,17 +1,14 @@
-ghost use Rattle.std.specs.Prelude.{◌≡◌, [], length, IfOk, IfSome, Ok};
-ghost use Rattle.std.specs.List.{list_all};
+ghost use Rattle.std.specs.Prelude.{◌≡◌, [], length, IfOk, Ok};
 ghost use Rattle.std.specs.Int.{w8, w16, w32, w64};
-ghost use Rattle.gate_base.specs.declared.name.Target.TheVariants.{Dns};
-ghost use Rattle.gate_entries.specs.Name.{labels_of, name_text, is_name, is_label, is_label_byte};
-ghost use Rattle.gate_entries.specs.Spelling.{entry_bytes, IsTarget, IsEntry};
+ghost use Rattle.gate_entries.specs.Spelling.{entry_bytes, IsEntry};
 ghost use Rattle.gate_entries.specs.declared.entry.Entry.{Entry as EntryValue};
-ghost use Rattle.gate_entries.specs.Reading.{Gives, Within, bytes_at, number_at, counted_at, truth_at, labels_at, name_at, v4_at, v6_at, target_at, targets_at, order_at, settings_at, send_at, signed_at, blocked_at, what_at, is_kind, kind_at, caller_at, fields_at, whole_entry, entry_of, TellsEntry};
+ghost use Rattle.gate_entries.specs.Reading.{Gives, Within, bytes_at, number_at, counted_at, truth_at, text_at, name_at, v4_at, v6_at, target_at, targets_at, order_at, settings_at, send_at, signed_at, blocked_at, what_at, is_kind, kind_at, caller_at, fields_at, whole_entry, entry_of, TellsEntry};
 
 use crate::entry::{Entry, What};
 use crate::fault::{EntryFault, EntryRead, FieldFault};
-use gate_base::{Address, Bytes, Labels, Moment, Name, NoMemory, Target, Targets};
+use crate::naming::name_behind;
+use gate_base::{Address, Bytes, Moment, Target, Targets};
 use std::alloc::Global;
-use std::mem;
 
 /// The most bytes that an entry takes.
 const MOST_BYTES: usize = 1_114_112;
@@ -230,21 +227,20 @@ fn read_name(alloc: Global, bytes: &[u8]) -> Result<(Target, &[u8]), FieldFault>
     ensures within { Within (λ x. x.1.now) bytes.now result }
 {
     let (wild, rest) = read_truth(bytes)?;
-    let (labels, rest) = read_labels(alloc, wild, rest)?;
-    Ok((Target::Dns(Name { labels, wild }), rest))
+    let (target, rest) = read_text(alloc, wild, rest)?;
+    Ok((target, rest))
 }
 
-#[tactic(auto, unfolding(crate::specs::Reading::labels_at))]
-fn read_labels(alloc: Global, wild: bool, bytes: &[u8]) -> Result<(Labels, &[u8]), FieldFault>
-    ensures exact { Gives (λ x. (x.0, x.1.now)) result (labels_at wild bytes.now) }
+#[tactic(auto, unfolding(crate::specs::Reading::text_at))]
+fn read_text(alloc: Global, wild: bool, bytes: &[u8]) -> Result<(Target, &[u8]), FieldFault>
+    ensures exact { Gives (λ x. (x.0, x.1.now)) result (text_at wild bytes.now) }
     ensures within { Within (λ x. x.1.now) bytes.now result }
 {
     let (text, rest) = counted8(bytes)?;
-    let labels = labels_of(alloc, text)?;
-    if !is_name(wild, &labels, text.len()) {
-        return Err(FieldFault::Left(bytes.len()));
+    match name_behind(alloc, wild, text)? {
+        Some(name) => Ok((Target::Dns(name), rest)),
+        None => Err(FieldFault::Left(bytes.len())),
     }
-    Ok((labels, rest))
 }
 
 #[tactic(auto, unfolding(crate::specs::Reading::truth_at))]
@@ -373,17 +369,6 @@ fn read_u64(bytes: &[u8]) -> Result<(u64, &[u8]), FieldFault>
     Ok((number, rest))
 }
 
-/// The name whose text, without `*.`, this is; None where it is no name's.
-pub fn read_name_text(alloc: Global, wild: bool, text: &[u8]) -> Result<Option<Name>, NoMemory>
-    ensures { IfOk result (λ found. IfSome found (λ name. IsTarget (Dns name))) }
-{
-    let labels = labels_of(alloc, text)?;
-    if !is_name(wild, &labels, text.len()) {
-        return Ok(None);
-    }
-    Ok(Some(Name { labels, wild }))
-}
-
 fn sixteen(octets: &[u8]) -> [u8; 16]
     requires { length octets.now ≡ 16 }
     ensures { result ≡ octets.now }
@@ -391,57 +376,4 @@ fn sixteen(octets: &[u8]) -> [u8; 16]
     let mut all = [0; 16];
     all.copy_from_slice(octets);
     all
-}
-
-/// A text cut at its dots.
-fn labels_of(alloc: Global, text: &[u8]) -> Result<Labels, NoMemory>
-    ensures { IfOk result (λ labels. labels ≡ labels_of text.now) }
-{
-    let mut labels = Labels::new(alloc);
-    let mut label = Vec::new(alloc);
-    let mut rest = text;
-    while let [byte, after @ ..] = rest {
-        if *byte == b'.' {
-            labels.push(Bytes::from_vec(mem::replace(&mut label, Vec::new(alloc))))?;
-        } else {
-            label.push(*byte)?;
-        }
-        rest = after;
-    }
-    labels.push(Bytes::from_vec(label))?;
-    Ok(labels)
-}
-
-/// Whether labels whose text has so many bytes are a name's.
-fn is_name(wild: bool, labels: &Labels, size: usize) -> bool
-    requires { size ≡ length (name_text labels.now) }
-    ensures { result ≡ is_name wild labels.now }
-{
-    let most = if wild { 251 } else { 253 };
-    0 < labels.len() && are_labels(labels.as_slice()) && size <= most
-}
-
-fn are_labels(labels: &[Bytes]) -> bool
-    ensures { result ≡ list_all is_label labels.now }
-{
-    labels.iter().all(|label| is_label(label))
-}
-
-fn is_label(label: &Bytes) -> bool
-    ensures { result ≡ is_label label.now }
-{
-    let size = label.len();
-    0 < size && size <= 63 && are_label_bytes(label.as_slice())
-}
-
-fn are_label_bytes(bytes: &[u8]) -> bool
-    ensures { result ≡ list_all is_label_byte bytes.now }
-{
-    bytes.iter().all(|byte| is_label_byte(*byte))
-}
-
-fn is_label_byte(byte: u8) -> bool
-    ensures { result ≡ is_label_byte byte }
-{
-    matches!(byte, b'a'..=b'z' | b'0'..=b'9' | b'-')
 }

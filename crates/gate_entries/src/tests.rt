@@ -21,6 +21,9 @@ const SIGNED: &[u8] =
 const BLOCKED: &[u8] =
     b"\x08\0\0\0\0\0\0\0\x02\0\0\0\0\x6a\xb1\x3b\x80\0\x02op\x02k1\0\x03\xaa\xbb\xcc";
 
+/// A label of 64 bytes.
+const LONG_LABEL: &[u8] = b"aaaaaaaaaaaaaaaaaaaaaaaaaaaaaaaaaaaaaaaaaaaaaaaaaaaaaaaaaaaaaaaa";
+
 /// Where the first bad field begins.
 fn place(alloc: Global, bytes: &[u8]) -> Option<u64> {
     match read_entry(alloc, bytes) {
@@ -51,6 +54,26 @@ fn longer(alloc: Global) -> Result<Option<u64>, Fail> {
     let mut bytes = Vec::from_slice(alloc, ORDER)?;
     bytes.push(0)?;
     Ok(place(alloc, &bytes))
+}
+
+/// The order, of a name with this text behind its number, and a wildcard or not.
+fn with_name(alloc: Global, wild: bool, text: &[u8]) -> Result<Vec<u8>, Fail> {
+    let count = u8::try_from(text.len()).ok().ok_or("a short text")?;
+    let mut bytes = Vec::from_slice(alloc, ORDER.get(..28).ok_or("the order")?)?;
+    bytes.push(u8::from(wild))?;
+    bytes.push(count)?;
+    bytes.extend_from_slice(text)?;
+    bytes.extend_from_slice(b"\0\x01\x30")?;
+    Ok(bytes)
+}
+
+/// The front, and so many labels of one letter behind it.
+fn long_text(alloc: Global, front: &[u8], labels: u8) -> Result<Vec<u8>, Fail> {
+    let mut text = Vec::from_slice(alloc, front)?;
+    for _ in 0..labels {
+        text.extend_from_slice(b".a")?;
+    }
+    Ok(text)
 }
 
 /// Whether the bytes are read as an entry that is written as these bytes, and is as long as is told.
@@ -202,6 +225,41 @@ fn entries_are_read_written_and_refused(rt: HostRuntime) -> Result<(), Fail> {
     ];
     for (index, byte, at) in changes {
         assert_eq!(rt; changed(alloc, index, byte)?, Some(at), "{byte} at {index}");
+    }
+    Ok(())
+}
+
+#[test]
+fn names_are_kept_in_their_one_text(rt: HostRuntime) -> Result<(), Fail> {
+    let alloc = rt.alloc();
+    for (wild, text) in [
+        (false, b"example.com".as_slice()),
+        (true, b"example.com"),
+        (false, b"xn--mnchen-3ya.example"),
+        (false, long_text(alloc, b"a", 126)?.as_slice()),
+        (true, long_text(alloc, b"a", 125)?.as_slice()),
+    ] {
+        assert!(rt; is_written_as_read(alloc, &with_name(alloc, wild, text)?)?);
+    }
+    // An upper-case letter, a hyphen at an end, hyphens at the third and fourth places, no Punycode behind `xn--`, an empty
+    // label, no label, 64 bytes of a label, 254 bytes of text, a star within, and one before a text that has its own field.
+    for (wild, text) in [
+        (false, b"Example.com".as_slice()),
+        (false, b"a-.example"),
+        (false, b"-a.example"),
+        (false, b"ab--c.example"),
+        (false, b"xn--c.example"),
+        (false, b"a..example"),
+        (false, b""),
+        (false, LONG_LABEL),
+        (false, long_text(alloc, b"aa", 126)?.as_slice()),
+        (true, long_text(alloc, b"aa", 125)?.as_slice()),
+        (false, b"a.*.example"),
+        (false, b"*.example.com"),
+        (true, b"*.example.com"),
+    ] {
+        let told = place(alloc, &with_name(alloc, wild, text)?);
+        assert_eq!(rt; told, Some(29), "{wild} {text:?}");
     }
     Ok(())
 }

@@ -1,8 +1,8 @@
-ghost use Rattle.std.specs.Prelude.{◌≡◌, ◌<◌, ◌^◌, [], ◌∷◌, ◌++◌, length, OnOk, OnErr, IsTrue};
+ghost use Rattle.std.specs.Prelude.{◌≡◌, ◌<◌, ◌^◌, [], ◌∷◌, ◌++◌, length, OnOk, OnErr};
 ghost use Rattle.std.specs.List.{flat_map};
 ghost use Rattle.std.specs.Int.{w8, w16, w32, w64, to_be_bytes};
-ghost use Rattle.gate_entries.specs.Name.{name_text, is_name};
-ghost use Rattle.gate_entries.specs.Spelling.{counted, name_bytes, target_bytes, targets_bytes, kind_of, what_bytes, entry_bytes, IsTarget, AreTargets, IsWhat, IsEntry};
+ghost use Rattle.gate_base.specs.declared.name.Target.TheVariants.{Dns};
+ghost use Rattle.gate_entries.specs.Spelling.{counted, labels_text, name_bytes, target_bytes, targets_bytes, kind_of, what_bytes, entry_bytes, IsTarget, AreTargets, IsWhat, IsEntry};
 
 use crate::entry::{Entry, What};
 use gate_base::{Address, Bytes, Labels, Name, NoMemory, Target, Targets};
@@ -142,8 +142,9 @@ fn put_target(target: &Target, out: &mut Vec<u8>) -> Result<(), NoMemory>
     Ok(())
 }
 
+#[tactic(auto, using(crate::proofs::Names::text_size))]
 fn put_name(name: &Name, out: &mut Vec<u8>) -> Result<(), NoMemory>
-    requires { IsTrue (is_name name.now.wild name.now.labels) }
+    requires { IsTarget (Dns name.now) }
     ensures ok { OnOk result (out.new.items ≡ out.old.items ++ name_bytes name.now) }
 {
     let mut text = Vec::new(*out.allocator());
@@ -156,8 +157,9 @@ fn put_name(name: &Name, out: &mut Vec<u8>) -> Result<(), NoMemory>
 }
 
 /// Appends the labels, with a dot between two.
+#[tactic(auto, using(crate::proofs::Names::labels_behind))]
 fn put_labels(labels: &Labels, out: &mut Vec<u8>) -> Result<(), NoMemory>
-    ensures ok { OnOk result (out.new.items ≡ out.old.items ++ name_text labels.now) }
+    ensures ok { OnOk result (out.new.items ≡ out.old.items ++ labels_text labels.now) }
 {
     if let Some((first, others)) = labels.as_slice().split_first() {
         out.extend_from_slice(first.as_slice())?;

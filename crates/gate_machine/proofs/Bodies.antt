@@ -1,18 +1,19 @@
 -- The serial number that stands in a small body, and the names that it has room for.
-use Rattle.std.proofs.Common.{◌≡◌, ℕ, zero, suc, ◌+◌, ◌-◌, ◌<◌, ◌≤◌, ◌^◌, ◌/◌, ◌%◌, Bool, true, false, ◌&&◌, List, [], ◌∷◌, ◌++◌, length, take, drop, refl, sym, ap, subst, ◌∙◌, inl, inr, arith, append_assoc, length-append}
-use Rattle.std.specs.Prelude.{codes, nat_lt, if◌then◌else◌}
-use Rattle.std.specs.List.{flat_map, list_all, join_with_byte, AllByRecursion}
-use Rattle.std.proofs.lemmas.Bool.{cases_lt, lt-ltb, le-ltb, leb-true}
+use Rattle.std.proofs.Common.{◌≡◌, ℕ, zero, suc, ◌+◌, ◌-◌, ◌<◌, ◌≤◌, ◌^◌, ◌/◌, ◌%◌, Bool, true, false, List, [], ◌∷◌, ◌++◌, length, take, drop, Option, Some, None, Result, Ok, refl, sym, ap, subst, ◌∙◌, inl, inr, arith, append_assoc, length-append}
+use Rattle.std.specs.Prelude.{nat_lt, if◌then◌else◌}
+use Rattle.std.specs.List.{AllByRecursion}
+use Rattle.std.proofs.lemmas.Bool.{cases_lt, lt-ltb, le-ltb, ltb-false}
 use Rattle.std.proofs.lemmas.List.{take_at, drop_at}
-use Rattle.std.proofs.lemmas.List.Concat.{flat_map-cons}
 use Rattle.gate_base.specs.declared.name.Address.TheVariants.{V4, V6}
 use Rattle.gate_base.specs.declared.name.Name.{Name}
 use Rattle.gate_base.specs.declared.name.Target.{Target}
 use Rattle.gate_base.specs.declared.name.Target.TheVariants.{Dns, Ip}
 use Rattle.der_text.specs.Tree.{length_octets, element, spellings}
-use Rattle.names_core.specs.Target as names
+use Rattle.names_core.specs.declared.fault.NameFault.{NameFault}
+use Rattle.names_core.specs.declared.fault.NameFault.TheVariants.{Empty, LongLabel, LongName}
+use Rattle.names_core.specs.Name.{labels_break, labels_of, name_of, name_read, unless}
+use Rattle.names_core.specs.Target.{name_text}
 use Rattle.tbs_build.specs.Small.{general_names, IsShort}
-use Rattle.gate_entries.specs.Name as entries
 use Rattle.gate_entries.specs.Spelling.{IsTarget}
 use Rattle.gate_machine.specs.Sends.{more_octets, serial_in, small_bytes}
 
@@ -59,31 +60,23 @@ serial_of_small serial targets size few =
 
 -- ---- names
 
-joined : (labels : List (List ℕ)) → length (join_with_byte 46 labels) ≡ length (entries.name_text labels)
-joined [] = refl
-joined (label ∷ []) = omega (arith, length-append label [])
-joined (label ∷ next ∷ labels) =
-    let rest = joined (next ∷ labels) in
-    let e1 = length-append label (46 ∷ join_with_byte 46 (next ∷ labels)) in
-    let e2 = length-append label (flat_map (λ l. 46 ∷ l) (next ∷ labels)) in
-    let e3 = ap length (flat_map-cons (λ l. 46 ∷ l) next labels) in
-    let e4 = length-append (46 ∷ next) (flat_map (λ l. 46 ∷ l) labels) in
-    let e5 = length-append next (flat_map (λ l. 46 ∷ l) labels) in
-    omega (arith, rest, e1, e2, e3, e4, e5)
+-- where a name is read, the third of the rules is kept
+third_kept : (a b c : Bool) (x y z : NameFault) (rest : Option NameFault) (value read : Name)
+    → unless (if a then Some x else (if b then Some y else (if c then Some z else rest))) value ≡ Ok read → c ≡ false
+third_kept true b c x y z rest value read is = absurd cc
+third_kept false true c x y z rest value read is = absurd cc
+third_kept false false true x y z rest value read is = absurd cc
+third_kept false false false x y z rest value read is = refl
 
--- the third truth of three
-third : (x y z : Bool) → (x && y && z) ≡ true → z ≡ true
-third true true z all = all
-third true false z all = absurd cc
-third false y z all = absurd cc
-
-wild_short : (wild : Bool) (labels : List (List ℕ)) → length (entries.name_text labels) ≤ (if wild then 251 else 253)
-    → length ((if wild then codes "*." else []) ++ join_with_byte 46 labels) ≤ 253
-wild_short true labels fits = omega (arith, fits, joined labels, length-append (codes "*.") (join_with_byte 46 labels))
-wild_short false labels fits = omega (arith, fits, joined labels)
+-- no name is read from a text that is too long
+read_short : (text : List ℕ) (name : Name) → name_read text ≡ Ok name → length text ≤ 253
+read_short text name is =
+    let labels = labels_of text in
+    let kept = third_kept (labels_break Empty (length text) labels) (labels_break LongLabel (length text) labels) (nat_lt 253 (length text)) Empty LongLabel LongName _ (name_of text) name is in
+    ltb-false 253 (length text) kept
 
 short : (target : Target) → IsTarget target → IsShort target
-short (Dns name) is = wild_short name.wild name.labels (leb-true _ _ (third (nat_lt 0 (length name.labels)) (list_all entries.is_label name.labels) _ is))
+short (Dns name) is = read_short (name_text name) name is
 short (Ip (V4 octets)) is = omega (arith, is)
 short (Ip (V6 octets)) is = omega (arith, is)
 

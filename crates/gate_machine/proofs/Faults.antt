@@ -75,7 +75,7 @@ entry_may history entry answer answers = elim answers [
 
 module _ (history : List Entry) (caller : Caller) (reading number : ℕ) (order : Entry) (answer : Answer) where
   body_may : (body : List ℕ) → AnswersBody history caller reading number order body answer → MayFollow answer
-  body_may body answers = elim answers [
+  body_may body is = elim is.answers [
     | inl blocked ↦ as_answer answer _ blocked.answer_is refl
     | inr free ↦ elim free.1 [
       | inl full ↦ as_answer answer _ full.1 refl

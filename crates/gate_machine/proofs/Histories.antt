@@ -14,7 +14,7 @@ use Rattle.gate_entries.specs.declared.entry.What.TheVariants as whats
 use Rattle.gate_entries.specs.Command.{entry_with}
 use Rattle.gate_machine.specs.Rules.{BreaksNone}
 use Rattle.gate_machine.specs.History.{last_moment, moment_of, record_size, journal_size, IsSignature, MeetsRow, Follows, EachFollows, Legal}
-use Rattle.gate_machine.specs.Sends.{is_send_for, order_in, signed_entry, own_order, signed_for, block_of, spki_of, IsBodyOf, ComesToSigner}
+use Rattle.gate_machine.specs.Sends.{is_send_for, order_in, signed_entry, own_order, signed_for, block_of, IsOrderKey, IsBodyOf, ComesToSigner}
 use Rattle.gate_machine.specs.Answer.{IsInRange, IsNew, command_moment, entry_of_command, send_entry}
 
 -- the last entry of a history that has one more
@@ -98,12 +98,12 @@ pub may_come : (history : List Entry) (caller : Caller) (command : Command) (rea
 may_come history caller command reading entry legal in_range writes spelled new fields = comes history caller reading legal in_range command entry writes spelled new fields
 
 -- a body that is sent may come behind a legal history
-pub send_may_come : (history : List Entry) (caller : Caller) (reading number : ℕ) (body : List ℕ) (order entry : Entry) → Legal history → IsInRange reading
+pub send_may_come : (history : List Entry) (caller : Caller) (reading number : ℕ) (body key : List ℕ) (order entry : Entry) → Legal history → IsInRange reading
     → IsEntry entry → entry ≡ send_entry history caller reading number body → own_order caller.id number history ≡ Some order
-    → signed_for number history ≡ None → block_of (spki_of order.what) history ≡ None → IsBodyOf history number order body → Follows history entry
-send_may_come history caller reading number body order entry legal in_range spelled is own unsigned unblocked body_is =
+    → signed_for number history ≡ None → IsOrderKey order.what key → block_of key history ≡ None → IsBodyOf history number order body → Follows history entry
+send_may_come history caller reading number body key order entry legal in_range spelled is own unsigned is_key unblocked body_is =
     subst (λ (e : Entry). Follows history e) (sym is) (sends history caller reading legal in_range number body
-    (record { order = order; own = own; unsigned = unsigned; unblocked = unblocked; body_is = body_is }) (subst IsEntry is spelled))
+    (record { order = order; own = own; unsigned = unsigned; key = key; is_key = is_key; unblocked = unblocked; body_is = body_is }) (subst IsEntry is spelled))
 
 sum-push : {A : Type 0} (f : A → ℕ) (items : List A) (item : A) → 16 + sum_by f (items ++ item ∷ []) ≡ 16 + sum_by f items + f item
 sum-push f items item =

@@ -3,3 +3,4 @@ pub mod Sends
 pub mod Histories
 pub mod Faults
 pub mod Recorded
+pub mod LeastRule

@@ -15,6 +15,7 @@ use Rattle.gate_entries.specs.declared.entry.What.TheVariants.{Settings, Order, 
 use Rattle.gate_entries.specs.Spelling.{IsWhat, AreTargets}
 use Rattle.gate_machine.specs.History.{MeetsRow, ComesSigned, Follows, EachFollows}
 use Rattle.gate_machine.specs.Keys.{is_same}
+use Rattle.gate_machine.specs.Rules.{BreaksNone}
 use Rattle.gate_machine.specs.Sends.{is_order, is_own_order, own_order, is_send_for, sent_for, is_signed_for, signed_for, body_in, signature_in, targets_of, serial_in, send_with, order_in, signed_entry, IsGoodBody, HasOneBodyEach, small_bytes, IsNewBody, IsFresh, HasFreshSerial, TellsNewSerial, IsBodyOf, ComesToSigner}
 use Rattle.gate_machine.proofs.Bodies.{serial_of_small, all_short}
 
@@ -70,6 +71,21 @@ first_holds : (x y z : Bool) → (x && y && z) ≡ true → z ≡ true
 first_holds true true z all = all
 first_holds true false z all = absurd cc
 first_holds false y z all = absurd cc
+
+-- an order broke no rule when it came
+order_kept : (what : What) (before : List Entry) (caller : List ℕ) (moment : Moment) → is_order what ≡ true → MeetsRow before caller moment what → BreaksNone what
+order_kept (Order key common days targets request) before caller moment is row = row.fields
+order_kept (Settings bytes) before caller moment is row = absurd cc
+order_kept (Send number body) before caller moment is row = absurd cc
+order_kept (Signed number signature) before caller moment is row = absurd cc
+order_kept (Blocked key spki) before caller moment is row = absurd cc
+
+pub own_keeps_rules : (caller : List ℕ) (number : ℕ) (history : List Entry) (order : Entry) → EachFollows [] history → own_order caller number history ≡ Some order
+    → (is_order order.what ≡ true) × BreaksNone order.what
+own_keeps_rules caller number history order each own =
+    let found = find_follows (is_own_order caller number) [] history order each own in
+    let is = first_holds (eqb order.number number) (is_same order.caller caller) (is_order order.what) found.holds in
+    (is, order_kept order.what found.front order.caller order.moment is found.follows.row)
 
 pub own_is_order : (caller : List ℕ) (number : ℕ) (history : List Entry) (order : Entry) → EachFollows [] history → own_order caller number history ≡ Some order
     → (is_order order.what ≡ true) × IsWhat order.what

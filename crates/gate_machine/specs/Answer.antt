@@ -13,7 +13,7 @@ use Rattle.gate_entries.specs.declared.command.Command.TheVariants as commands
 use Rattle.gate_entries.specs.declared.reply.Why.TheVariants.{KeyBlocked}
 use Rattle.gate_base.specs.declared.sixteen.Sixteen.{Sixteen}
 use Rattle.gate_entries.specs.Command.{entry_with, entry_for}
-use Rattle.gate_machine.specs.Sends.{own_order, is_send_for, order_in, sent_for, signed_for, block_of, send_with, spki_of, targets_of, body_in, signature_in, serial_in, masked, small_bytes, certificate_bytes}
+use Rattle.gate_machine.specs.Sends.{own_order, is_send_for, order_in, sent_for, signed_for, block_of, send_with, IsOrderKey, targets_of, body_in, signature_in, serial_in, masked, small_bytes, certificate_bytes}
 use Rattle.gate_machine.specs.declared.answer.Answer.{Answer}
 use Rattle.gate_machine.specs.declared.answer.Answer.TheVariants.{Say, Write, Send, NeedDraw}
 use Rattle.gate_machine.specs.Rules.{IsLeastBroken, BreaksNone}
@@ -102,16 +102,20 @@ abbrev pub AnswersSend : List Entry → Entry → Answer → Type 0
 AnswersSend history entry answer =
     ((most_bytes < send_size history entry) × (answer ≡ Say replies.Full)) ⊎ ((send_size history entry ≤ most_bytes) × (answer ≡ Send entry))
 
--- the order's key is blocked
-pub record AnswersBlocked (history : List Entry) (order : Entry) (answer : Answer) : Type 0 where
+-- the key is blocked
+pub record AnswersBlocked (history : List Entry) (key : List ℕ) (answer : Answer) : Type 0 where
   pub block : Entry
-  pub stands : block_of (spki_of order.what) history ≡ Some block
+  pub stands : block_of key history ≡ Some block
   pub answer_is : answer ≡ Say (replies.Refused (KeyBlocked block.number ∷ []))
 
-abbrev pub AnswersBody : List Entry → Caller → ℕ → ℕ → Entry → List ℕ → Answer → Type 0
-AnswersBody history caller reading number order body answer =
-    AnswersBlocked history order answer
-    ⊎ ((block_of (spki_of order.what) history ≡ None) × AnswersSend history (send_entry history caller reading number body) answer)
+abbrev pub AnswersKey : List Entry → List ℕ → Entry → Answer → Type 0
+AnswersKey history key entry answer = AnswersBlocked history key answer ⊎ ((block_of key history ≡ None) × AnswersSend history entry answer)
+
+-- the order's key is blocked, or its body is sent
+pub record AnswersBody (history : List Entry) (caller : Caller) (reading number : ℕ) (order : Entry) (body : List ℕ) (answer : Answer) : Type 0 where
+  pub key : List ℕ
+  pub is_key : IsOrderKey order.what key
+  pub answers : AnswersKey history key (send_entry history caller reading number body) answer
 
 -- a body was sent before, and the same is sent again
 pub record AnswersAgain (history : List Entry) (caller : Caller) (reading number : ℕ) (order : Entry) (answer : Answer) : Type 0 where

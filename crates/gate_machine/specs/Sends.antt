@@ -5,6 +5,7 @@ use Rattle.gate_base.specs.declared.name.Target.{Target}
 use Rattle.gate_base.specs.declared.sixteen.Sixteen.{Sixteen}
 use Rattle.gate_base.specs.declared.profile.SigAlg.TheVariants.{EcdsaSha256}
 use Rattle.der_text.specs.Tree.{spelling}
+use Rattle.csr10.specs.Csr.{Fields, IsCsr}
 use Rattle.tbs_build.specs.Small.{small_body_tree, IsSerial}
 use Rattle.tbs_build.specs.Certificate.{certificate_of}
 use Rattle.gate_entries.specs.declared.entry.Entry.{Entry}
@@ -23,10 +24,15 @@ abbrev pub targets_of : What → List Target
 targets_of (Order key common days targets request) = targets
 targets_of what = []
 
--- the bytes of an order's key; so far they are all of its request
-abbrev pub spki_of : What → List ℕ
-spki_of (Order key common days targets request) = request
-spki_of what = []
+-- an order's key is the SubjectPublicKeyInfo in its request (RFC 2986, section 4.1)
+pub record IsKeyIn (request key : List ℕ) : Type 0 where
+  pub fields : Fields
+  pub is : IsCsr request fields
+  pub same : key ≡ fields.spki
+
+abbrev pub IsOrderKey : What → List ℕ → Type 0
+IsOrderKey (Order retry common days targets request) key = IsKeyIn request key
+IsOrderKey what key = ⊥
 
 -- the caller's own order with this number
 abbrev pub is_own_order : List ℕ → ℕ → Entry → Bool
@@ -142,7 +148,9 @@ pub record ComesToSigner (before : List Entry) (caller : List ℕ) (number : ℕ
   pub order : Entry
   pub own : own_order caller number before ≡ Some order
   pub unsigned : signed_for number before ≡ None
-  pub unblocked : block_of (spki_of order.what) before ≡ None
+  pub key : List ℕ
+  pub is_key : IsOrderKey order.what key
+  pub unblocked : block_of key before ≡ None
   pub body_is : IsBodyOf before number order body
 
 -- ---- signatures and certificates

@@ -53,7 +53,7 @@ pub fn answer_command(
     let number = history.len() as u64 + 1;
     let moment = Moment(reading.max(last_moment(history)));
     match command.entry(alloc, number, moment, caller)? {
-        Some(entry) => Ok(answer_entry(history, size, entry)),
+        Some(entry) => answer_entry(alloc, history, size, entry),
         None => answer_other(alloc, history, size, caller, command, reading, drawn),
     }
 }
@@ -92,17 +92,22 @@ fn is_in_range(reading: u64) -> bool
 }
 
 /// The answer to what is to be written under a key.
-fn answer_entry(history: &[Entry], size: u64, entry: Entry) -> Answer
+fn answer_entry(
+    alloc: Global,
+    history: &[Entry],
+    size: u64,
+    entry: Entry,
+) -> Result<Answer, NoMemory>
     requires size { size ≡ journal_size history.now }
     requires spelled { IsEntry entry }
     requires comes { IsNew history.now entry → BreaksNone entry.what → Follows history.now entry }
-    ensures answers { AnswersEntry history.now entry result }
-    ensures ready { IsReady history.now result }
-    ensures may { (other : Option SixteenValue) → MayBe other result }
+    ensures answers { IfOk result (AnswersEntry history.now entry) }
+    ensures ready { IfOk result (IsReady history.now) }
+    ensures may { IfOk result (λ answer. (other : Option SixteenValue) → MayBe other answer) }
 {
     match find_kept(history, &entry.caller, &entry.what) {
-        Some(kept) => Answer::Say(kept_reply(kept, &entry)),
-        None => answer_new(history, size, entry),
+        Some(kept) => Ok(Answer::Say(kept_reply(kept, &entry))),
+        None => answer_new(alloc, history, size, entry),
     }
 }
 
@@ -131,20 +136,20 @@ pub fn written_reply(entry: &Entry) -> Reply
 }
 
 /// The answer under a new key.
-fn answer_new(history: &[Entry], size: u64, entry: Entry) -> Answer
+fn answer_new(alloc: Global, history: &[Entry], size: u64, entry: Entry) -> Result<Answer, NoMemory>
     requires size { size ≡ journal_size history.now }
     requires spelled { IsEntry entry }
     requires comes { BreaksNone entry.what → Follows history.now entry }
-    ensures answers { AnswersNew history.now entry result }
-    ensures ready { IsReady history.now result }
-    ensures may { (other : Option SixteenValue) → MayBe other result }
+    ensures answers { IfOk result (AnswersNew history.now entry) }
+    ensures ready { IfOk result (IsReady history.now) }
+    ensures may { IfOk result (λ answer. (other : Option SixteenValue) → MayBe other answer) }
 {
-    if let Some(rule) = broken_rule(&entry.what) {
-        return Answer::Say(Reply::BadFields { rule });
+    if let Some(rule) = broken_rule(alloc, &entry.what)? {
+        return Ok(Answer::Say(Reply::BadFields { rule }));
     }
     let record = RECORD_HEAD + entry_len(&entry);
     if MOST_BYTES < size || MOST_BYTES - size < record {
-        return Answer::Say(Reply::Full);
+        return Ok(Answer::Say(Reply::Full));
     }
-    Answer::Write(entry)
+    Ok(Answer::Write(entry))
 }

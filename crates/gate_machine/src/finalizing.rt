@@ -1,18 +1,19 @@
 //! What is answered to a command that has an order finalized.
-ghost use Rattle.std.specs.Prelude.{◌≡◌, ◌≢◌, ◌<◌, ◌≤◌, ◌^◌, Some, Option, None, [], ◌∷◌, length, IfOk};
+ghost use Rattle.std.specs.Prelude.{◌≡◌, ◌≢◌, ℕ, ◌<◌, ◌≤◌, ◌^◌, List, Some, Option, None, [], ◌∷◌, length, IfOk};
 ghost use Rattle.tbs_build.specs.Small.{IsSerial};
 ghost use Rattle.gate_entries.specs.Command.{IsCaller};
 ghost use Rattle.gate_machine.specs.History.{journal_size, EachFollows, Legal};
 ghost use Rattle.gate_machine.specs.Sends as sends;
-ghost use Rattle.gate_machine.specs.Sends.{small_bytes, certificate_bytes, IsBodyOf};
+ghost use Rattle.gate_machine.specs.Sends.{small_bytes, certificate_bytes, IsBodyOf, IsOrderKey};
 ghost use Rattle.gate_base.specs.declared.sixteen.Sixteen.{Sixteen as SixteenValue};
 ghost use Rattle.gate_machine.specs.Answer.{AnswersFinalize, AnswersOrder, AnswersSigned, AnswersUnsigned, AnswersDrawn, AnswersBody, IsInRange, IsReady, MayBe};
 
 use crate::answer::{Answer, MOST_BYTES, RECORD_HEAD};
 use crate::following::last_moment;
+use crate::request::key_of;
 use crate::sending::{
     block_of, body_in, masked, own_order, send_with, sent_for, serial_in, signature_in, signed_for,
-    spki_of, to_sixteen,
+    to_sixteen,
 };
 use gate_base::{Bytes, Moment, NoMemory, SigAlg, Sixteen};
 use gate_entries::{Caller, Entry, Reply, What, Why, Whys, entry_len};
@@ -196,6 +197,22 @@ pub fn new_body(
     }
 }
 
+/// The key of the caller's own order.
+pub fn own_key<'a>(
+    alloc: Global,
+    history: &[Entry],
+    caller: &Bytes,
+    number: u64,
+    order: &'a Entry,
+) -> Result<&'a [u8], NoMemory>
+    requires each { EachFollows [] history.now }
+    requires own { sends.own_order caller.now number history.now ≡ Some order.now }
+    ensures key { IfOk result (λ key. IsOrderKey order.now.what key.now) }
+    ensures only { IfOk result (λ key. (other : List ℕ) → IsOrderKey order.now.what other → other ≡ key.now) }
+{
+    key_of(alloc, &order.what)
+}
+
 /// The answer for the order's one body.
 #[tactic(auto, using(crate::proofs::Histories::send_may_come))]
 fn answer_body(
@@ -220,7 +237,8 @@ fn answer_body(
     ensures ready { IfOk result (IsReady history.now) }
     ensures may { IfOk result (λ answer. (other : Option SixteenValue) → MayBe other answer) }
 {
-    if let Some(block) = block_of(history, spki_of(&order.what)) {
+    let key = own_key(alloc, history, &caller.id, number, order)?;
+    if let Some(block) = block_of(history, key) {
         return refused(alloc, block);
     }
     let next = history.len() as u64 + 1;

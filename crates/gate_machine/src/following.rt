@@ -6,10 +6,10 @@ ghost use Rattle.std.specs.Option.{option_copied};
 ghost use Rattle.gate_entries.specs.Spelling.{IsWhat, IsEntry};
 ghost use Rattle.gate_machine.specs.History.{moment_of, is_same_key, is_under, kept_for, ComesUnderKey, IsSentBy, IsSignature, ComesSigned, MeetsRow, Follows, IsInOrder, EachFollows};
 
-use crate::finalizing::new_body;
+use crate::finalizing::{new_body, own_key};
 use crate::rules::broken_rule;
 use crate::sending::{
-    block_of, body_in, is_send_for, own_order, send_with, sent_for, serial_in, signed_for, spki_of,
+    block_of, body_in, is_send_for, own_order, send_with, sent_for, serial_in, signed_for,
     to_sixteen,
 };
 use gate_base::{Bytes, Moment, NoMemory, Plain, Sixteen};
@@ -101,7 +101,7 @@ fn meets_row(
         What::Settings { bytes } => {
             Ok(before.is_empty() && caller.is_empty() && bytes.is_empty())
         }
-        What::Order { .. } | What::Blocked { .. } => Ok(comes_under_key(before, caller, what)),
+        What::Order { .. } | What::Blocked { .. } => comes_under_key(alloc, before, caller, what),
         What::Send { order, body } => comes_to_signer(alloc, before, caller, *order, body),
         What::Signed { order, signature } => {
             Ok(comes_signed(before, caller, moment, *order, signature))
@@ -109,10 +109,18 @@ fn meets_row(
     }
 }
 
-fn comes_under_key(before: &[Entry], caller: &Bytes, what: &What) -> bool
-    ensures { IsTrue result ↔ ComesUnderKey before.now caller.now what.now }
+fn comes_under_key(
+    alloc: Global,
+    before: &[Entry],
+    caller: &Bytes,
+    what: &What,
+) -> Result<bool, NoMemory>
+    ensures { IfOk result (λ comes. IsTrue comes ↔ ComesUnderKey before.now caller.now what.now) }
 {
-    !before.is_empty() && find_kept(before, caller, what).is_none() && broken_rule(what).is_none()
+    if before.is_empty() || find_kept(before, caller, what).is_some() {
+        return Ok(false);
+    }
+    Ok(broken_rule(alloc, what)?.is_none())
 }
 
 /// Whether a body may be sent for an order.
@@ -130,7 +138,11 @@ fn comes_to_signer(
     let Some(order) = own_order(before, caller, number) else {
         return Ok(false);
     };
-    if signed_for(before, number).is_some() || block_of(before, spki_of(&order.what)).is_some() {
+    if signed_for(before, number).is_some() {
+        return Ok(false);
+    }
+    let key = own_key(alloc, before, caller, number, order)?;
+    if block_of(before, key).is_some() {
         return Ok(false);
     }
     is_body_of(alloc, before, caller, number, order, body)

@@ -6,6 +6,8 @@ mod answer;
 mod finalizing;
 mod following;
 mod law;
+mod names;
+mod request;
 mod rules;
 mod sending;
 
@@ -15,8 +17,9 @@ pub use law::{
     a_body_has_a_serial_number, a_signature_follows, an_order_has_one_body, one_entry_more,
     what_follows_a_reading, what_was_sent_is_recorded,
 };
+pub use request::key_of;
 pub use rules::broken_rule;
 pub use sending::{
     block_of, body_in, masked, own_order, send_with, sent_for, serial_in, signature_in, signed_for,
-    spki_of, to_sixteen,
+    to_sixteen,
 };

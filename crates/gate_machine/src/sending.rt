@@ -84,16 +84,6 @@ pub fn signature_in(what: &What) -> &[u8]
     }
 }
 
-/// The bytes of an order's key.
-pub fn spki_of(what: &What) -> &[u8]
-    ensures { result.now ≡ sends.spki_of what.now }
-{
-    match what {
-        What::Order { request, .. } => request.as_slice(),
-        _ => &[],
-    }
-}
-
 /// The first entry that blocks the key.
 pub fn block_of<'a>(history: &'a [Entry], spki: &[u8]) -> Option<&'a Entry>
     ensures { option_copied result ≡ sends.block_of spki.now history.now }

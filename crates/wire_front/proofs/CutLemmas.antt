@@ -14,7 +14,7 @@ use Rattle.std.proofs.lemmas.Fmt.{digits_decimal, decimal-digits_value, parse-de
 use Rattle.std.proofs.lemmas.Bool.{eqb-true, eq-eqb, leb-true}
 use Rattle.std.proofs.lemmas.Bool.Decides.{nat_tests}
 use Rattle.std.proofs.lemmas.List.{take_at, drop_at, take_all, take-append-drop, take-append-le, length-drop}
-use Rattle.gate_entries.proofs.Names.{left_holds, right_holds}
+use Rattle.wire_front.proofs.Truths.{left_holds, right_holds}
 use Rattle.wire_front.specs.Message.{is_digit}
 use Rattle.wire_front.specs.Reading.{StartsWith, StartsWithSize, IsNumber, IsSize, is_numeral, with_first, until_at, behind, before, ◌>>=◌, field_at}
 

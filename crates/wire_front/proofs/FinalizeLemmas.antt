@@ -8,7 +8,7 @@ use Rattle.std.proofs.lemmas.Str.{IsUtf8-from_ascii}
 use Rattle.std.proofs.lemmas.Str.Parse.{digits_value_short, parse_gives}
 use Rattle.std.proofs.lemmas.Bool.{leb-true}
 use Rattle.std.proofs.lemmas.List.{append_cancel_left}
-use Rattle.gate_entries.proofs.Names.{left_holds, right_holds}
+use Rattle.wire_front.proofs.Truths.{left_holds, right_holds}
 use Rattle.wire_front.specs.declared.cutting.Absent.{Absent}
 use Rattle.wire_front.specs.Message.{is_digit, is_order_number, finalize_text, AsksFinalize}
 use Rattle.wire_front.specs.Reading.{IsAbsent, StartsWith, StartsWithNumber, StartsWithFinalize, ReadsNumber, ReadsFinalize, until_at}

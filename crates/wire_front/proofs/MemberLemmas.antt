@@ -11,7 +11,7 @@ use Rattle.base64.specs.Engines.{standard}
 use Rattle.base64.proofs.EngineFacts.{decode_of-encode_of}
 use Rattle.gate_entries.specs.declared.command.Command.{Command}
 use Rattle.gate_entries.specs.declared.command.Command.TheVariants.{Order, Finalize, Block}
-use Rattle.gate_entries.proofs.Names.{left_holds, right_holds}
+use Rattle.wire_front.proofs.Truths.{left_holds, right_holds}
 use Rattle.wire_front.specs.Message.{is_plain_byte, names_text, is_key, body_of, IsSaid}
 use Rattle.wire_front.specs.Reading.{Reads, ◌>>=◌, field_at, behind, before, Texts, members_at, texts_of}
 use Rattle.wire_front.proofs.CutLemmas.{is_other, bind_some, bind_is, field_is, field_found, behind_is, behind_found, before_is, before_found, decimal_free}

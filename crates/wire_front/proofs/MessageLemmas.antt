@@ -17,7 +17,6 @@ use Rattle.wire_front.specs.Reading.{HasNoOrder, TellsOrder, StartsWithFrame, St
 use Rattle.wire_front.proofs.FrameLemmas.{framed_parts, one_frame}
 use Rattle.wire_front.proofs.FinalizeLemmas.{one_finalize}
 use Rattle.wire_front.proofs.MemberLemmas.{one_order, key_length}
-use Rattle.wire_front.proofs.NameLemmas.{named}
 
 abbrev body_begins : List ℕ
 body_begins = codes "{\"common\":false,\"days\":"
@@ -86,7 +85,7 @@ some_message bytes (Block key spki) asks = absurd asks
 
 targets_spelled : (targets : List Target) → AllByRecursion IsDomain targets → AllByRecursion IsTarget targets
 targets_spelled [] are = tt
-targets_spelled (Dns name ∷ targets) are = (named name.wild name.labels are.0, targets_spelled targets are.1)
+targets_spelled (Dns name ∷ targets) are = (are.0.0, targets_spelled targets are.1)
 targets_spelled (Ip address ∷ targets) are = absurd are.0
 
 said_spelled : (command : Command) → IsSaid command → IsCommand command

@@ -1,17 +1,19 @@
 -- Domain names as texts, and lists of them.
-use Rattle.std.proofs.Common.{◌≡◌, ◌≢◌, ℕ, suc, ◌<◌, ◌≤◌, Bool, true, false, ◌&&◌, eqb, List, [], ◌∷◌, ◌++◌, length, codes, Option, Some, None, refl, sym, ap, subst, ◌∙◌, append_assoc, arith, length-append}
-use Rattle.std.specs.Prelude.{nat_lt}
-use Rattle.std.specs.List.{flat_map, list_all, AllByRecursion}
+use Rattle.std.proofs.Common.{◌≡◌, ◌≢◌, ℕ, suc, ◌<◌, ◌≤◌, Bool, true, false, eqb, List, [], ◌∷◌, ◌++◌, length, codes, Option, Some, None, Result, Ok, refl, sym, ap, subst, ◌∙◌, append_assoc, arith, length-append}
+use Rattle.std.specs.Prelude.{if◌then◌else◌}
+use Rattle.std.specs.List.{flat_map, list_all, join_with_byte, AllByRecursion}
 use Rattle.std.proofs.lemmas.Bool.{eqb-true}
-use Rattle.std.proofs.lemmas.List.{append_cancel_left}
 use Rattle.std.proofs.lemmas.List.Folds.{list_all-append}
 use Rattle.gate_base.specs.declared.name.Name.{Name}
 use Rattle.gate_base.specs.declared.name.Target.{Target}
 use Rattle.gate_base.specs.declared.name.Target.TheVariants.{Dns, Ip}
-use Rattle.gate_entries.specs.Name.{name_text, labels_of, is_label, is_name}
-use Rattle.gate_entries.proofs.Names.{left_holds, right_holds, labels_of-name_text, name_text-labels_of, one_text}
-use Rattle.wire_front.specs.Message.{is_plain_byte, domain_text, quoted, names_text, last_begins_with_letter, is_domain, IsDomain, AreDistinct, AreNames}
-use Rattle.wire_front.specs.Reading.{ReadsQuoted, IsSplit, behind, field_at}
+use Rattle.names_core.specs.declared.fault.NameFault.{NameFault}
+use Rattle.names_core.specs.Name.{name_read}
+use Rattle.names_core.specs.Target.{name_text}
+use Rattle.gate_entries.specs.Spelling.{IsTarget}
+use Rattle.wire_front.specs.Message.{is_plain_byte, domain_text, quoted, names_text, last_begins_with_letter, are_domain_labels, IsDomain, AreDistinct, AreNames}
+use Rattle.wire_front.specs.Reading.{ReadsQuoted, behind, field_at}
+use Rattle.wire_front.proofs.Truths.{left_holds, right_holds}
 use Rattle.wire_front.proofs.CutLemmas.{is_other, field_is, field_found, behind_is, behind_found}
 
 -- ---- what a domain name's labels are
@@ -19,18 +21,8 @@ use Rattle.wire_front.proofs.CutLemmas.{is_other, field_is, field_found, behind_
 abbrev are_plain : List (List ℕ) → Bool
 are_plain labels = list_all (list_all is_plain_byte) labels
 
-pub named : (wild : Bool) (labels : List (List ℕ)) → is_domain wild labels ≡ true → is_name wild labels ≡ true
-named wild labels is = left_holds (is_name wild labels) (are_plain labels) (left_holds (is_name wild labels && are_plain labels) (last_begins_with_letter labels) is)
-
-plain : (wild : Bool) (labels : List (List ℕ)) → is_domain wild labels ≡ true → are_plain labels ≡ true
-plain wild labels is = right_holds (is_name wild labels) (are_plain labels) (left_holds (is_name wild labels && are_plain labels) (last_begins_with_letter labels) is)
-
-labelled : (wild : Bool) (labels : List (List ℕ)) → is_domain wild labels ≡ true → (nat_lt 0 (length labels) && list_all is_label labels) ≡ true
-labelled wild labels is = left_holds _ _ (named wild labels is)
-
-cut_again : (labels : List (List ℕ)) → (nat_lt 0 (length labels) && list_all is_label labels) ≡ true → labels_of (name_text labels) ≡ labels
-cut_again [] are = absurd cc
-cut_again (label ∷ labels) are = labels_of-name_text label labels (right_holds _ _ are)
+plain : (name : Name) → IsDomain (Dns name) → are_plain name.labels ≡ true
+plain name is = left_holds (are_plain name.labels) (last_begins_with_letter name.labels) is.1
 
 -- ---- bytes that no name has
 
@@ -55,24 +47,21 @@ label_free byte foreign (x ∷ label) ok =
 both : (p : ℕ → Bool) (a b : List ℕ) → list_all p a ≡ true → list_all p b ≡ true → list_all p (a ++ b) ≡ true
 both p a b in_a in_b = list_all-append p a b ∙ rw (in_a, in_b) refl
 
-others_free : (byte : ℕ) → IsForeign byte → (labels : List (List ℕ)) → are_plain labels ≡ true → list_all (is_other byte) (flat_map (λ next. 46 ∷ next) labels) ≡ true
-others_free byte foreign [] ok = refl
-others_free byte foreign (label ∷ labels) ok =
-    let first : list_all (is_other byte) (46 ∷ label) ≡ true = rw foreign.no_dot (label_free byte foreign label (left_holds _ _ ok)) in
-    both (is_other byte) (46 ∷ label) (flat_map (λ next. 46 ∷ next) labels) first (others_free byte foreign labels (right_holds _ _ ok))
+joined_free : (byte : ℕ) → IsForeign byte → (labels : List (List ℕ)) → are_plain labels ≡ true → list_all (is_other byte) (join_with_byte 46 labels) ≡ true
+joined_free byte foreign [] ok = refl
+joined_free byte foreign (label ∷ []) ok = label_free byte foreign label (left_holds _ _ ok)
+joined_free byte foreign (label ∷ next ∷ labels) ok =
+    let others = join_with_byte 46 (next ∷ labels) in
+    let behind : list_all (is_other byte) (46 ∷ others) ≡ true = rw foreign.no_dot (joined_free byte foreign (next ∷ labels) (right_holds _ _ ok)) in
+    both (is_other byte) label (46 ∷ others) (label_free byte foreign label (left_holds _ _ ok)) behind
 
-name_free : (byte : ℕ) → IsForeign byte → (labels : List (List ℕ)) → are_plain labels ≡ true → list_all (is_other byte) (name_text labels) ≡ true
-name_free byte foreign [] ok = refl
-name_free byte foreign (label ∷ labels) ok =
-    both (is_other byte) label (flat_map (λ next. 46 ∷ next) labels) (label_free byte foreign label (left_holds _ _ ok)) (others_free byte foreign labels (right_holds _ _ ok))
-
-wild_free : (byte : ℕ) → IsForeign byte → eqb 42 byte ≡ false → (name : Name) (wild : Bool) → is_domain wild name.labels ≡ true
-    → list_all (is_other byte) (domain_text (Dns (record { labels = name.labels; wild = wild }))) ≡ true
-wild_free byte foreign star name true is = rw (star, foreign.no_dot) (name_free byte foreign name.labels (plain true name.labels is))
-wild_free byte foreign star name false is = name_free byte foreign name.labels (plain false name.labels is)
+front_free : (byte : ℕ) → IsForeign byte → eqb 42 byte ≡ false → (wild : Bool) → list_all (is_other byte) (if wild then codes "*." else []) ≡ true
+front_free byte foreign star true = rw (star, foreign.no_dot) refl
+front_free byte foreign star false = refl
 
 pub domain_free : (byte : ℕ) → IsForeign byte → eqb 42 byte ≡ false → (target : Target) → IsDomain target → list_all (is_other byte) (domain_text target) ≡ true
-domain_free byte foreign star (Dns name) is = wild_free byte foreign star name name.wild is
+domain_free byte foreign star (Dns name) is =
+    both (is_other byte) (if name.wild then codes "*." else []) (join_with_byte 46 name.labels) (front_free byte foreign star name.wild) (joined_free byte foreign name.labels (plain name is))
 domain_free byte foreign star (Ip address) is = absurd is
 
 pub quote : IsForeign 34
@@ -81,63 +70,33 @@ quote = record { no_letter = refl; no_dot = refl }
 pub bracket : IsForeign 93
 bracket = record { no_letter = refl; no_dot = refl }
 
-star_foreign : IsForeign 42
-star_foreign = record { no_letter = refl; no_dot = refl }
-
--- a name without `*.` begins with no star
-not_wild : (labels : List (List ℕ)) (rest : List ℕ) → are_plain labels ≡ true → name_text labels ≡ 42 ∷ rest → ⊥
-not_wild labels rest ok same =
-    let free = name_free 42 star_foreign labels ok in
-    let wrong : list_all (is_other 42) (42 ∷ rest) ≡ true = subst (λ (t : List ℕ). list_all (is_other 42) t ≡ true) same free in
-    absurd cc
-
 -- ---- one name
 
-no_name : (labels : List (List ℕ)) (wild : Bool) (other : List (List ℕ)) → is_domain wild labels ≡ false → labels ≡ other → is_domain wild other ≡ true → ⊥
-no_name labels wild other refused same is =
-    let wrong : is_domain wild labels ≡ true = rw same is in
-    absurd cc
+abbrev done : Name → Result Name NameFault
+done name = Ok name
 
-missed_wild : (text name : List ℕ) (read given : Bool) (labels : List (List ℕ)) → IsSplit text read name → is_domain read (labels_of name) ≡ false
-    → is_domain given labels ≡ true → text ≡ domain_text (Dns (record { labels = labels; wild = given })) → ⊥
-missed_wild text name true true labels split refused is same =
-    let e : name ≡ name_text labels = append_cancel_left (codes "*.") name (name_text labels) (sym split ∙ same) in
-    no_name (labels_of name) true labels refused (ap labels_of e ∙ cut_again labels (labelled true labels is)) is
-missed_wild text name true false labels split refused is same = not_wild labels (46 ∷ name) (plain false labels is) (sym same ∙ split)
-missed_wild text name false true labels split refused is same = split.1 (name_text labels) same
-missed_wild text name false false labels split refused is same =
-    let e : name ≡ name_text labels = sym split.0 ∙ same in
-    no_name (labels_of name) false labels refused (ap labels_of e ∙ cut_again labels (labelled false labels is)) is
+ok_is : (left right : Name) → done left ≡ done right → left ≡ right
+ok_is left right is = cc
 
-pub target_missed : (text name : List ℕ) (wild : Bool) (labels : List (List ℕ)) → IsSplit text wild name → labels ≡ labels_of name → false ≡ is_domain wild labels
+-- a text is one name's at most
+one_text : (left right : Name) → IsTarget (Dns left) → IsTarget (Dns right) → name_text left ≡ name_text right → left ≡ right
+one_text left right is_left is_right same = ok_is left right (sym is_left ∙ ap name_read same ∙ is_right)
+
+pub no_target : (text : List ℕ) → ((name : Name) → IsTarget (Dns name) → name_text name ≢ text) → (target : Target) → IsDomain target → text ≢ domain_text target
+no_target text none (Dns given) is same = none given is.0 (sym same)
+no_target text none (Ip address) is same = is
+
+-- the name that has this text has other labels
+pub target_missed : (text : List ℕ) (name : Name) → IsTarget (Dns name) → name_text name ≡ text → false ≡ are_domain_labels name.labels
     → (target : Target) → IsDomain target → text ≢ domain_text target
-target_missed text name wild labels split cut refused (Dns given) is same =
-    missed_wild text name wild given.wild given.labels split (rw (← cut) (sym refused)) is same
-target_missed text name wild labels split cut refused (Ip address) is same = is
-
-found_wild : (text name : List ℕ) (wild : Bool) → IsSplit text wild name → text ≡ domain_text (Dns (record { labels = labels_of name; wild = wild }))
-found_wild text name true split = split ∙ ap (λ (t : List ℕ). codes "*." ++ t) (sym (name_text-labels_of name))
-found_wild text name false split = split.0 ∙ sym (name_text-labels_of name)
-
-pub target_found : (text name : List ℕ) (wild : Bool) (labels : List (List ℕ)) → IsSplit text wild name → labels ≡ labels_of name
-    → text ≡ domain_text (Dns (record { labels = labels; wild = wild }))
-target_found text name wild labels split cut = found_wild text name wild split ∙ ap (λ (l : List (List ℕ)). domain_text (Dns (record { labels = l; wild = wild }))) (sym cut)
-
-all_labels : (wild : Bool) (labels : List (List ℕ)) → is_domain wild labels ≡ true → list_all is_label labels ≡ true
-all_labels wild labels is = right_holds _ _ (labelled wild labels is)
-
-one_wild : (left right : List (List ℕ)) (a b : Bool) → is_domain a left ≡ true → is_domain b right ≡ true
-    → domain_text (Dns (record { labels = left; wild = a })) ≡ domain_text (Dns (record { labels = right; wild = b })) → (left ≡ right) × (a ≡ b)
-one_wild left right true true is_left is_right same =
-    (one_text left right (all_labels true left is_left) (all_labels true right is_right) (append_cancel_left (codes "*.") (name_text left) (name_text right) same), refl)
-one_wild left right true false is_left is_right same = absurd (not_wild right (46 ∷ name_text left) (plain false right is_right) (sym same))
-one_wild left right false true is_left is_right same = absurd (not_wild left (46 ∷ name_text right) (plain false left is_left) same)
-one_wild left right false false is_left is_right same = (one_text left right (all_labels false left is_left) (all_labels false right is_right) same, refl)
+target_missed text name named spelled refused (Dns given) is same =
+    let e : given ≡ name = one_text given name is.0 named (sym same ∙ sym spelled) in
+    let wrong : are_domain_labels name.labels ≡ true = subst (λ (n : Name). are_domain_labels n.labels ≡ true) e is.1 in
+    absurd cc
+target_missed text name named spelled refused (Ip address) is same = is
 
 pub one_domain : (left right : Target) → IsDomain left → IsDomain right → domain_text left ≡ domain_text right → left ≡ right
-one_domain (Dns left) (Dns right) is_left is_right same =
-    let e = one_wild left.labels right.labels left.wild right.wild is_left is_right same in
-    ap (λ (l : List (List ℕ)). Dns (record { labels = l; wild = left.wild })) e.0 ∙ ap (λ (w : Bool). Dns (record { labels = right.labels; wild = w })) e.1
+one_domain (Dns left) (Dns right) is_left is_right same = ap Dns (one_text left right is_left.0 is_right.0 same)
 one_domain (Dns left) (Ip right) is_left is_right same = absurd is_right
 one_domain (Ip left) right is_left is_right same = absurd is_left
 

@@ -1,6 +1,6 @@
 -- The two forms of message, as the bytes of an HTTP/1.1 request of the account `acme` (RFC 9112, section 2.1):
 -- an order, with a JSON body, and the finalizing of an order.
-use Rattle.std.specs.Prelude.{◌≡◌, ◌≢◌, ℕ, ◌≤◌, List, [], ◌∷◌, ◌++◌, length, codes, Bool, ◌&&◌, ◌||◌, nat_le, if◌then◌else◌, IsTrue, false}
+use Rattle.std.specs.Prelude.{◌≡◌, ◌≢◌, ℕ, ◌≤◌, List, [], ◌∷◌, ◌++◌, length, codes, Bool, ◌&&◌, ◌||◌, nat_le, IsTrue, false}
 use Rattle.std.specs.List.{flat_map, list_all, AllByRecursion}
 use Rattle.std.specs.Fmt.{decimal}
 use Rattle.std.specs.Str.Parse.{digits_value}
@@ -8,10 +8,11 @@ use Rattle.base64.specs.GeneralPurpose.{encode_of, IsBytes}
 use Rattle.base64.specs.Engines.{standard}
 use Rattle.gate_base.specs.declared.name.Target.{Target}
 use Rattle.gate_base.specs.declared.name.Target.TheVariants.{Dns, Ip}
+use Rattle.names_core.specs.Target.{name_text}
 use Rattle.gate_entries.specs.declared.command.Command.{Command}
 use Rattle.gate_entries.specs.declared.command.Command.TheVariants.{Order, Finalize, Block}
 use Rattle.gate_entries.specs.Command.{IsCommand}
-use Rattle.gate_entries.specs.Name.{name_text, is_name}
+use Rattle.gate_entries.specs.Spelling.{IsTarget}
 use Rattle.wire_front.specs.declared.message.Found.{Found}
 use Rattle.wire_front.specs.declared.message.Found.TheVariants as found
 
@@ -27,7 +28,7 @@ is_plain_byte byte = is_letter byte || is_digit byte
 
 -- the text of a name, with `*.` in front where it is a wildcard; an address has none
 abbrev pub domain_text : Target → List ℕ
-domain_text (Dns name) = (if name.wild then codes "*." else []) ++ name_text name.labels
+domain_text (Dns name) = name_text name
 domain_text (Ip address) = []
 
 abbrev pub quoted : List ℕ → List ℕ
@@ -62,12 +63,13 @@ last_begins_with_letter ([] ∷ []) = false
 last_begins_with_letter ((byte ∷ bytes) ∷ []) = is_letter byte
 last_begins_with_letter (label ∷ next ∷ labels) = last_begins_with_letter (next ∷ labels)
 
--- a domain name of at most 253 bytes, with the `*.` of a wildcard: its labels have 1 to 63 lower-case letters or digits
-abbrev pub is_domain : Bool → List (List ℕ) → Bool
-is_domain wild labels = is_name wild labels && list_all (list_all is_plain_byte) labels && last_begins_with_letter labels
+-- the labels have lower-case letters and digits alone
+abbrev pub are_domain_labels : List (List ℕ) → Bool
+are_domain_labels labels = list_all (list_all is_plain_byte) labels && last_begins_with_letter labels
 
+-- a domain name, maybe a wildcard, with such labels
 abbrev pub IsDomain : Target → Type 0
-IsDomain (Dns name) = IsTrue (is_domain name.wild name.labels)
+IsDomain (Dns name) = IsTarget (Dns name) × IsTrue (are_domain_labels name.labels)
 IsDomain (Ip address) = ⊥
 
 -- no two are equal

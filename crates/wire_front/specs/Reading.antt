@@ -1,5 +1,5 @@
 -- What the readers of a message's parts answer.
-use Rattle.std.specs.Prelude.{◌≡◌, ◌≢◌, ℕ, ◌≤◌, ◌<◌, ◌^◌, ◌-◌, List, [], ◌∷◌, ◌++◌, length, take, drop, codes, Bool, true, false, not, ◌&&◌, Option, Some, None, ◌==◌, if◌then◌else◌, nat_eq, IsTrue}
+use Rattle.std.specs.Prelude.{◌≡◌, ◌≢◌, ℕ, ◌≤◌, ◌<◌, ◌^◌, ◌-◌, List, [], ◌∷◌, ◌++◌, length, take, drop, codes, Bool, false, not, ◌&&◌, Option, Some, None, ◌==◌, if◌then◌else◌, nat_eq, IsTrue}
 use Rattle.std.specs.Option.{option_map}
 use Rattle.std.specs.List.{list_all}
 use Rattle.std.specs.Cmp.Lexicographic.{pointwise}
@@ -142,8 +142,3 @@ texts_of command = ([], [], [], [])
 abbrev pub ReadsQuoted : List ℕ → Option (Target × List ℕ) → Type 0
 ReadsQuoted bytes (Some found) = IsDomain found.0 × (bytes ≡ quoted (domain_text found.0) ++ found.1)
 ReadsQuoted bytes None = (target : Target) (rest : List ℕ) → IsDomain target → bytes ≢ quoted (domain_text target) ++ rest
-
--- a text with the `*.` of a wildcard taken off, where it has that
-abbrev pub IsSplit : List ℕ → Bool → List ℕ → Type 0
-IsSplit text true name = text ≡ codes "*." ++ name
-IsSplit text false name = (text ≡ name) × ((rest : List ℕ) → text ≢ codes "*." ++ rest)

@@ -1,14 +1,13 @@
 //! The names of a message: domain names in quotes, with a comma between two.
-ghost use Rattle.std.specs.Prelude.{◌≡◌, ◌≢◌, [], ◌∷◌, length, option_map, IfOk, IsTrue, false};
+ghost use Rattle.std.specs.Prelude.{◌≡◌, ◌≢◌, [], ◌∷◌, option_map, IfOk, IsTrue, false};
 ghost use Rattle.std.specs.List.{list_all, AllByRecursion};
-ghost use Rattle.gate_entries.specs.Name.{labels_of, name_text, is_name, is_label, is_label_byte};
-ghost use Rattle.wire_front.specs.Message.{domain_text, names_text, is_letter, is_plain_byte, last_begins_with_letter, IsDomain, is_domain, AreNames};
-ghost use Rattle.wire_front.specs.Reading.{Reads, ReadsQuoted, IsSplit};
+ghost use Rattle.wire_front.specs.Message.{domain_text, names_text, is_letter, is_plain_byte, last_begins_with_letter, are_domain_labels, IsDomain, AreNames};
+ghost use Rattle.wire_front.specs.Reading.{Reads, ReadsQuoted};
 
 use crate::cutting::{strip_field, strip_text};
-use gate_base::{Bytes, Labels, Name, NoMemory, Plain, Target, Targets};
+use gate_base::{Bytes, NoMemory, Plain, Target, Targets};
+use gate_entries::read_name_text;
 use std::alloc::Global;
-use std::mem;
 
 /// The greatest number of names.
 const NAMES_LIMIT: usize = 100;
@@ -70,78 +69,19 @@ fn is_among(target: &Target, others: &[Target]) -> bool
 fn read_target(alloc: Global, text: &[u8]) -> Result<Option<Target>, NoMemory>
     ensures { IfOk result (λ found. Reads domain_text IsDomain text.now found) }
 {
-    let (wild, name) = split_wild(text);
-    let labels = labels_of(alloc, name)?;
-    if !is_domain(wild, &labels, name.len()) {
+    let Some(name) = read_name_text(alloc, text)? else {
+        return Ok(None);
+    };
+    if !are_domain_labels(name.labels.as_slice()) {
         return Ok(None);
     }
-    Ok(Some(Target::Dns(Name { labels, wild })))
+    Ok(Some(Target::Dns(name)))
 }
 
-/// Whether a name begins as a wildcard, and what it is without that.
-fn split_wild(text: &[u8]) -> (bool, &[u8])
-    ensures { IsSplit text.now result.0 result.1.now }
+fn are_domain_labels(labels: &[Bytes]) -> bool
+    ensures { result ≡ are_domain_labels labels.now }
 {
-    match text {
-        [b'*', b'.', name @ ..] => (true, name),
-        _ => (false, text),
-    }
-}
-
-/// A text cut at its dots.
-fn labels_of(alloc: Global, text: &[u8]) -> Result<Labels, NoMemory>
-    ensures { IfOk result (λ labels. labels ≡ labels_of text.now) }
-{
-    let mut labels = Labels::new(alloc);
-    let mut label = Vec::new(alloc);
-    let mut rest = text;
-    while let [byte, after @ ..] = rest {
-        if *byte == b'.' {
-            labels.push(Bytes::from_vec(mem::replace(&mut label, Vec::new(alloc))))?;
-        } else {
-            label.push(*byte)?;
-        }
-        rest = after;
-    }
-    labels.push(Bytes::from_vec(label))?;
-    Ok(labels)
-}
-
-/// Whether labels whose text has so many bytes are a domain name's.
-fn is_domain(wild: bool, labels: &Labels, size: usize) -> bool
-    requires { size ≡ length (name_text labels.now) }
-    ensures { result ≡ is_domain wild labels.now }
-{
-    let most = if wild { 251 } else { 253 };
-    let labels = labels.as_slice();
-    (!labels.is_empty() && are_labels(labels) && size <= most)
-        && are_plain(labels)
-        && last_begins_with_letter(labels)
-}
-
-fn are_labels(labels: &[Bytes]) -> bool
-    ensures { result ≡ list_all is_label labels.now }
-{
-    labels.iter().all(|label| is_label(label))
-}
-
-fn is_label(label: &Bytes) -> bool
-    ensures { result ≡ is_label label.now }
-{
-    let size = label.len();
-    0 < size && size <= 63 && are_label_bytes(label.as_slice())
-}
-
-fn are_label_bytes(bytes: &[u8]) -> bool
-    ensures { result ≡ list_all is_label_byte bytes.now }
-{
-    bytes.iter().all(|byte| is_label_byte(*byte))
-}
-
-fn is_label_byte(byte: u8) -> bool
-    ensures { result ≡ is_label_byte byte }
-{
-    matches!(byte, b'a'..=b'z' | b'0'..=b'9' | b'-')
+    are_plain(labels) && last_begins_with_letter(labels)
 }
 
 fn are_plain(labels: &[Bytes]) -> bool

@@ -10,9 +10,9 @@ use Rattle.gate_machine.proofs.finalizing.answer_body.Goals as goal
 pub returns-clause-ready : goal.returns-clause-ready
 returns-clause-ready c =
     let follows =
-    send_may_come c.args.history.now c.args.caller.now c.args.reading c.args.number c.args.body c.args.order.now c.in_ok-entry.entry c.requires.legal c.requires.in_range
+    send_may_come c.args.history.now c.args.caller.now c.args.reading c.args.number c.args.body c.in_ok-key.key.now c.args.order.now c.in_ok-entry.entry c.requires.legal c.requires.in_range
     c.in_ok-entry.ensures.spelled (c.in_ok-entry.ensures.entry ∙ cc (c.max.ensures, c.last_moment.ensures)) c.requires.own c.requires.unsigned
-    (ap (λ (s : List ℕ). block_of s c.args.history.now) (sym c.spki_of.ensures) ∙ sym c.block_of.ensures ∙ ap option_copied c.in_default.is) c.requires.body in
+    c.in_ok-key.ensures.key (sym c.block_of.ensures ∙ ap option_copied c.in_default.is) c.requires.body in
     let what : c.in_ok-entry.entry.what ≡ Send c.args.number c.args.body = ap (λ (e : Entry). e.what) c.in_ok-entry.ensures.entry in
     record {
       follows = follows;
