@@ -303,7 +303,7 @@ type Sans = &'static [General];
 #[derive(Clone, Copy, Debug)]
 enum Asking {
     /// These bytes.
-    Bytes(&'static [u8]),
+    These(&'static [u8]),
     /// The good request up to this place, and behind it as many zeros.
     Cut(usize, usize),
     Version(u8),
@@ -323,7 +323,7 @@ enum Asking {
 }
 
 use Asking::{
-    Attributes, Bytes as These, Cut, KeyAndSans, Point, Rsa, San, TwoSans, Version, VersionAndKey,
+    Attributes, Cut, KeyAndSans, Point, Rsa, San, These, TwoSans, Version, VersionAndKey,
 };
 
 fn compressed(rt: &impl Abort, alloc: Global) -> Vec<u8> {
