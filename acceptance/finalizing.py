@@ -3,6 +3,7 @@
 import base64
 import dataclasses
 
+from der import element
 from gate_program import HEAD, Wrong, check, records_of, reply
 
 SETTINGS, ORDERED, SENT, SIGNED = 1, 2, 6, 7
@@ -15,14 +16,6 @@ SIGNER_FAULT = reply("503 Service Unavailable", '{"reply":"signer_fault"}')
 def finalize(number):
     """The message that has an order finalized, of a number or a text of digits."""
     return f"POST /orders/{number}/finalize HTTP/1.1\r\nhost: gate\r\nx-gate-key: acme-token\r\n\r\n".encode()
-
-
-def element(tag, content):
-    """A tag, the shortest length (X.690, section 10.1) and the content."""
-    size = len(content)
-    octets = size.to_bytes((size.bit_length() + 7) // 8, "big")
-    length = bytes([size]) if size < 128 else bytes([0x80 + len(octets)]) + octets
-    return bytes([tag]) + length + content
 
 
 def names_part(names):

@@ -17,7 +17,8 @@ USAGE = "usage: gate JOURNAL CONF SIGNER WORDS"
 HEAD = b"gate journal 00\n"
 BEGUN_BYTES = 43
 
-# A certificate request in the form that usual tools write: its head, a P-256 key, no attributes and a signature without bits.
+# A certificate request in the form that usual tools write: its head, a P-256 key, no attributes and a
+# signature of eight bits.
 REQUEST = bytes.fromhex(
     "3074" "3062" "020100" "3000"
     "3059" "301306072a8648ce3d020106082a8648ce3d030107" "034200" "04" + "11" * 64 +
@@ -63,6 +64,10 @@ def key_reused(number):
     return reply("409 Conflict", f'{{"kept":{number},"reply":"key_reused"}}')
 
 
+def bad_fields(rule):
+    return reply("422 Unprocessable Entity", f'{{"reply":"bad_fields","rule":{rule}}}')
+
+
 ORDER = message(["example.com"])
 OTHER_ORDER = message(["example.com", "www.example.com"])
 PLACED = placed(2)
@@ -78,6 +83,14 @@ def run_command(command, sent=b"", folder=None, environment=None, seconds=SECOND
     except subprocess.TimeoutExpired:
         words = " ".join(str(word) for word in command[1:])
         raise Wrong(f"{pathlib.Path(command[0]).name} {words}: it didn't end within {seconds} seconds") from None
+
+
+def need_openssl():
+    """Installs OpenSSL where it isn't there; the script ends where it can't be had."""
+    if shutil.which("openssl") is None:
+        run_command(["apt-get", "install", "-y", "openssl"], b"", seconds=300)
+    if shutil.which("openssl") is None:
+        sys.exit("openssl isn't there, and couldn't be installed")
 
 
 def run_gate(arguments, sent=b"", seconds=SECONDS):
@@ -126,6 +139,18 @@ class Gate:
         check(f"{what}: standard error", "", found.stderr.decode(errors="replace"))
         check(f"{what}: exit status", 0, found.returncode)
         check(f"{what}: output", output, found.stdout)
+
+    def answers(self, messages, replies, status=0, error="", labels=None, seconds=SECONDS):
+        """A session over these messages gives each its reply, and ends with this status and error."""
+        found = self.run("session", sent=b"".join(messages), seconds=seconds)
+        at = 0
+        for place, wanted in enumerate(replies):
+            label = labels[place] if labels else f"message {place + 1}"
+            check(f"the reply to {label}", wanted, found.stdout[at : at + len(wanted)])
+            at += len(wanted)
+        check("output behind the replies", b"", found.stdout[at:])
+        check("standard error", error, found.stderr.decode(errors="replace"))
+        check("exit status", status, found.returncode)
 
     def refuses(self, what, exit_status, name, *words, output=b"", **more):
         """It ends with this status and its name, and the journal's bytes are as before."""

@@ -2,6 +2,7 @@
 
 use crate::begin;
 use crate::blocked::{block, operator};
+use crate::requests::{key, request};
 use crate::tests::{
     BEGUN, BLOCKED, DISK_FAULT, ENTROPY_FAULT, ENTROPY_REPEAT, Gate, ISSUED, NO_SUCH_ORDER, PLACED,
     REFUSED, SIGNER_FAULT, Said, bytes, caller, command, content_of, gate_over, said,
@@ -19,15 +20,17 @@ enum Turn {
     Order(u8, u8),
     /// The account with this number has the order finalized.
     Finalize(u8, u64),
-    /// The operator blocks a key of this one byte.
+    /// The operator blocks the key with these bytes of its point.
     Block(u8),
+    /// The operator blocks all bytes of the request with that key.
+    BlockRequest(u8),
 }
 
 /// The example's body: the serial number 40 and fifteen zeros, and `example.com`.
 const BODY: &[u8] =
     b"\x30\x21\x02\x10\x40\0\0\0\0\0\0\0\0\0\0\0\0\0\0\0\x30\x0d\x82\x0bexample.com";
 
-/// Over a plant whose call 12, the first of the signer, loses its reply, and whose call 23, the write of a signature, fails.
+/// Over a plant whose call 12, the first of the signer, loses its reply, and whose call 25, the write of a signature, fails.
 const TURNS: &[(Turn, Said)] = &[
     (Turn::Order(0, 0), (PLACED, 2)),
     (Turn::Finalize(1, 2), (NO_SUCH_ORDER, 0)),
@@ -38,14 +41,16 @@ const TURNS: &[(Turn, Said)] = &[
     (Turn::Finalize(0, 2), (ISSUED, 2)),
     // The drawn bytes stand already, with other bits where they are masked.
     (Turn::Order(1, 4), (PLACED, 6)),
+    // These bytes are no order's key.
+    (Turn::BlockRequest(0x12), (BLOCKED, 7)),
     (Turn::Finalize(0, 6), (ENTROPY_REPEAT, 0)),
     // The signature's entry isn't written: what was sent is sent again.
     (Turn::Finalize(0, 6), (DISK_FAULT, 0)),
     (Turn::Finalize(0, 6), (ISSUED, 6)),
-    (Turn::Order(2, 4), (PLACED, 10)),
-    (Turn::Finalize(0, 10), (ENTROPY_FAULT, 0)),
-    (Turn::Block(0x31), (BLOCKED, 11)),
-    (Turn::Finalize(0, 10), (REFUSED, 11)),
+    (Turn::Order(2, 4), (PLACED, 11)),
+    (Turn::Finalize(0, 11), (ENTROPY_FAULT, 0)),
+    (Turn::Block(0x12), (BLOCKED, 12)),
+    (Turn::Finalize(0, 11), (REFUSED, 12)),
     // A key that is blocked after the signature takes nothing back.
     (Turn::Finalize(0, 6), (ISSUED, 6)),
 ];
@@ -75,7 +80,13 @@ fn take_turn(rt: &impl Abort, alloc: Global, gate: &mut Gate, turn: Turn) -> Rep
             gate.ask(&caller(rt, alloc, asker), &Command::Finalize { order })
         }
         Turn::Block(byte) => {
-            let asked = block(rt, alloc, 0, &[byte]);
+            let key = key(rt, alloc, byte);
+            let asked = block(rt, alloc, 0, key.as_slice());
+            gate.ask(&operator(rt, alloc), &asked)
+        }
+        Turn::BlockRequest(byte) => {
+            let request = request(rt, alloc, byte);
+            let asked = block(rt, alloc, 1, request.as_slice());
             gate.ask(&operator(rt, alloc), &asked)
         }
     }
@@ -86,7 +97,7 @@ fn orders_are_sent_signed_and_told(rt: HostRuntime) {
     let alloc = rt.alloc();
     let mut fails = Sequence::new(alloc);
     fails.push((12, Fail::ReplyLost)).expect(&rt, "memory");
-    fails.push((23, Fail::Disk)).expect(&rt, "memory");
+    fails.push((25, Fail::Disk)).expect(&rt, "memory");
     let secret = bytes(&rt, alloc, b"secret");
     let mut plant = MemoryPlant::new(alloc, Bytes::new(alloc), secret, fails);
     begin(alloc, &mut plant, Moment(BEGUN)).expect(&rt, "a journal");

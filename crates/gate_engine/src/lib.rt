@@ -19,8 +19,12 @@ pub use law::one_history;
 #[cfg(test)]
 mod blocked;
 #[cfg(test)]
+mod fields;
+#[cfg(test)]
 mod finalized;
 #[cfg(test)]
 mod listed;
+#[cfg(test)]
+mod requests;
 #[cfg(test)]
 mod tests;

@@ -1,5 +1,6 @@
 //! The orders that a gate places, as a plain list.
 
+use crate::requests::request;
 use crate::tests::{
     Asked, BEGUN, CLOCK_FAULT, CLOCK_RANGE, DISK_FAULT, FIRST, FULL, KEY_REUSED, LAST, MOST_BYTES,
     PLACED, Said, content_of, id_of, key_of,
@@ -166,7 +167,9 @@ pub fn payload(rt: &impl Abort, alloc: Global, row: Row) -> Vec<u8> {
     put(rt, &mut out, &content.days.to_be_bytes());
     put(rt, &mut out, &[1, 1, 0]);
     put_counted(rt, &mut out, content.name);
-    put(rt, &mut out, &[0, 1, content.request]);
+    let request = request(rt, alloc, content.request);
+    put(rt, &mut out, b"\0\x76");
+    put(rt, &mut out, request.as_slice());
     out
 }
 
@@ -175,8 +178,10 @@ pub fn records(rt: &impl Abort, alloc: Global, rows: &[Row]) -> Vec<u8> {
     let mut out = Vec::new(alloc);
     for row in rows {
         let payload = payload(rt, alloc, *row);
-        put(rt, &mut out, &[0, 0, 0]);
-        put_counted(rt, &mut out, &payload);
+        let size = u16::try_from(payload.len()).expect(rt, "a small payload");
+        put(rt, &mut out, &[0, 0]);
+        put(rt, &mut out, &size.to_be_bytes());
+        put(rt, &mut out, &payload);
     }
     out
 }

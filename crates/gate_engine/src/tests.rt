@@ -4,7 +4,8 @@ ghost use Rattle.gate_entries.specs.Spelling.{IsTarget, AreTargets};
 ghost use Rattle.gate_entries.specs.Command.{IsCommand, IsCaller};
 
 use super::*;
-use crate::listed::{Row, Rows, payload, put, records};
+use crate::listed::{Row, Rows, payload, put, put_counted, records};
+use crate::requests::request;
 use gate_base::{Bytes, Moment, Role, Sequence, Target, Targets};
 use gate_entries::{Caller, Command, Reply, Why, Whys, read_name_text};
 use journal_core::{Journal, MAX_PAYLOAD};
@@ -114,18 +115,20 @@ pub fn key_of(key: u8) -> &'static [u8]
     match key {
         0 => b"k1",
         1 => b"k10",
-        2 => b"",
+        2 => b"~",
         3 => b"ek1",
         _ => b"0123456789abcdef0123456789abcdef0123456789abcdef0123456789abcdef",
     }
 }
 
-/// What is ordered. Each differs from the first in one field.
+/// What is ordered. Each differs from the first in one field. That with the number 5 breaks a rule, and the name of that with
+/// the number 6 is read to another text.
 #[derive(Clone, Copy)]
 pub struct Content {
     pub days: u16,
     pub common: bool,
     pub name: &'static [u8],
+    /// What the bytes of the key's point are, in the request.
     pub request: u8,
 }
 
@@ -134,14 +137,16 @@ pub fn content_of(number: u8) -> Content {
         days: 47,
         common: false,
         name: b"example.com",
-        request: 0x30,
+        request: 0x11,
     };
     match number {
         0 => {}
-        1 => content.days = 0,
+        1 => content.days = 48,
         2 => content.common = true,
         3 => content.name = b"www.example.com",
-        _ => content.request = 0x31,
+        5 => content.days = 0,
+        6 => content.name = b"Example.com",
+        _ => content.request = 0x12,
     }
     content
 }
@@ -193,7 +198,7 @@ pub fn bytes(rt: &impl Abort, alloc: Global, text: &[u8]) -> Bytes
 fn target(rt: &impl Abort, alloc: Global, text: &[u8]) -> Target
     ensures { IsTarget result }
 {
-    let read = read_name_text(alloc, false, text).expect(rt, "memory");
+    let read = read_name_text(alloc, text).expect(rt, "memory");
     Target::Dns(read.expect(rt, "a name"))
 }
 
@@ -213,7 +218,7 @@ pub fn command(rt: &impl Abort, alloc: Global, key: u8, content: Content) -> Com
         targets: one_target(rt, alloc, content.name),
         days: content.days,
         common: content.common,
-        request: bytes(rt, alloc, &[content.request]),
+        request: request(rt, alloc, content.request),
     }
 }
 
@@ -416,9 +421,9 @@ fn a_table_of_commands_is_answered_as_by_a_list(rt: HostRuntime) {
 
 // ---- a journal that fills up
 
-/// Caller, key and content of each command where 100 bytes are left, and its reply.
+/// Caller, key and content of each command where 334 bytes are left, and its reply.
 const LAST_COMMANDS: &[(Asked, Said)] = &[
-    // 51 bytes, and then one more than are left
+    // 168 bytes, and then one more than are left
     ((0, 0, 0), (PLACED, 1121)),
     ((1, 0, 0), (FULL, 0)),
     ((0, 0, 0), (PLACED, 1121)),
@@ -430,32 +435,42 @@ const LAST_COMMANDS: &[(Asked, Said)] = &[
     ((3, 1, 4), (KEY_REUSED, 1122)),
 ];
 
-/// An order with a long request, under its number as the key. Its record takes 42 bytes more than the request.
-fn put_long_order(rt: &impl Abort, out: &mut Vec<u8>, number: u64, request: &[u8]) {
-    let size = u16::try_from(request.len()).expect(rt, "a request");
-    let behind_length = size.checked_add(38).expect(rt, "a record");
+/// A blocked key, under its number as the retry key. Its record takes 32 bytes more than the key.
+fn put_long_block(rt: &impl Abort, out: &mut Vec<u8>, number: u16, spki: &[u8]) {
+    let size = u16::try_from(spki.len()).expect(rt, "a key");
+    let behind_length = size.checked_add(28).expect(rt, "a record");
     put(rt, out, &[0, 0]);
     put(rt, out, &behind_length.to_be_bytes());
-    put(rt, out, &[2]);
-    put(rt, out, &number.to_be_bytes());
+    put(rt, out, &[8]);
+    put(rt, out, &u64::from(number).to_be_bytes());
     put(rt, out, &BEGUN.to_be_bytes());
-    put(rt, out, b"\0\x04acme\x08");
-    put(rt, out, &number.to_le_bytes());
-    put(rt, out, &[0, 0, 47, 0]);
+    put(rt, out, b"\0\x02op");
+    put_counted(rt, out, &digits(number));
     put(rt, out, &size.to_be_bytes());
-    put(rt, out, request);
+    put(rt, out, spki);
 }
 
-/// A disk with 1120 entries, on which 100 bytes are left.
+/// The number in four letters from a to p, of 16 values each.
+fn digits(number: u16) -> [u8; 4] {
+    let [high, low] = number.to_be_bytes();
+    [
+        b'a'.saturating_add(high / 16),
+        b'a'.saturating_add(high % 16),
+        b'a'.saturating_add(low / 16),
+        b'a'.saturating_add(low % 16),
+    ]
+}
+
+/// A disk with 1120 entries, on which 334 bytes are left.
 fn nearly_full_disk(rt: &impl Abort, alloc: Global) -> Bytes {
     let mut out = BEGUN_DISK.to_vec(alloc).expect(rt, "memory");
-    let mut request = Vec::new(alloc);
-    request.resize(59_958, 0).expect(rt, "memory");
+    let mut spki = Vec::new(alloc);
+    spki.resize(59_968, 0).expect(rt, "memory");
     for number in 2..1120 {
-        put_long_order(rt, &mut out, number, &request);
+        put_long_block(rt, &mut out, number, &spki);
     }
-    request.truncate(28_679);
-    put_long_order(rt, &mut out, 1120, &request);
+    spki.truncate(28_455);
+    put_long_block(rt, &mut out, 1120, &spki);
     Bytes::from_vec(out)
 }
 
@@ -469,7 +484,7 @@ fn nearly_full_rows(alloc: Global) -> Rows<'static> {
     Rows {
         before: 1120,
         rows: Vec::new(alloc),
-        size: MOST_BYTES - 100,
+        size: MOST_BYTES - 334,
         loose: false,
         calls: 4,
         fails: &[],
@@ -485,7 +500,7 @@ fn a_journal_fills_up_to_its_last_byte(rt: HostRuntime) {
     let mut gate = nearly_full_gate(&rt, alloc, rows.readings);
     are_answered(&rt, alloc, &mut rows, &mut gate, LAST_COMMANDS);
     assert_eq!(rt; gate.engine.count(), 1122);
-    holds(&rt, alloc, &gate.plant, 67_108_764, &rows);
+    holds(&rt, alloc, &gate.plant, 67_108_530, &rows);
 }
 
 // ---- payloads that are no legal history
@@ -493,7 +508,7 @@ fn a_journal_fills_up_to_its_last_byte(rt: HostRuntime) {
 /// What the first record of a journal holds that began at that moment.
 const SETTINGS: &[u8] = b"\x01\0\0\0\0\0\0\0\x01\0\0\0\0\x6a\xb1\x3b\x80\0\0\0\0\0\0";
 
-/// An order that may come behind these settings. Its record takes 51 bytes.
+/// An order that may come behind these settings. Its record takes 168 bytes.
 const ORDER: Row = Row {
     number: 2,
     moment: BEGUN,
@@ -575,14 +590,24 @@ fn an_order_that_may_not_follow_is_told(rt: HostRuntime) {
 }
 
 #[test]
+fn an_order_that_breaks_a_rule_is_told(rt: HostRuntime) {
+    for content in [5, 6] {
+        let row = Row { content, ..ORDER };
+        let payload = payload(&rt, rt.alloc(), row);
+        let fault = fault_of_two(&rt, rt.alloc(), SETTINGS, &payload);
+        assert_eq!(rt; fault, bad_at(43), "content {content}");
+    }
+}
+
+#[test]
 fn a_key_that_stands_is_told(rt: HostRuntime) {
     // number, caller, key and content behind an order
     for (number, caller, key, content, want) in [
         (3, 0, 1, 0, None),
         (3, 1, 0, 0, None),
-        (3, 0, 0, 0, bad_at(94)),
-        (3, 0, 0, 1, bad_at(94)),
-        (2, 0, 1, 0, bad_at(94)),
+        (3, 0, 0, 0, bad_at(211)),
+        (3, 0, 0, 1, bad_at(211)),
+        (2, 0, 1, 0, bad_at(211)),
     ] {
         let row = Row {
             number,

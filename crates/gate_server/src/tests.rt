@@ -25,6 +25,11 @@ const OTHER_ORDER: &[u8] =
     MHQwYgIBADAAMFkwEwYHKoZIzj0CAQYIKoZIzj0DAQcDQgAEERERERERERERERERERERERERERERERER\
     EREREREREREREREREREREREREREREREREREREREREREREREREREREaAAMAoGCCqGSM49BAMCAwIAAA==\"}";
 
+/// An order whose request is cut off behind three bytes.
+const FAULTY_ORDER: &[u8] =
+    b"POST /orders HTTP/1.1\r\nhost: gate\r\nx-gate-key: acme-token\r\ncontent-length: 78\r\n\r\n\
+    {\"common\":false,\"days\":47,\"key\":\"k1\",\"names\":[\"example.com\"],\"request\":\"MIIB\"}";
+
 /// The record of the order as entry 2 at that moment: what stands in front of its request, and the request.
 pub const ORDERED: &[u8] = b"\0\0\0\xa4\x02\0\0\0\0\0\0\0\x02\0\0\0\0\x6a\xb1\x3b\x80\
     \0\x04acme\x02k1\0\0\x2f\x01\x01\0\x0bexample.com\0\x76\
@@ -42,6 +47,10 @@ pub const PLACED: &[u8] =
 const KEY_REUSED: &[u8] =
     b"HTTP/1.1 409 Conflict\r\ncontent-type: application/json\r\ncontent-length: 31\r\n\r\n\
     {\"kept\":2,\"reply\":\"key_reused\"}";
+
+const NO_DER: &[u8] =
+    b"HTTP/1.1 422 Unprocessable Entity\r\ncontent-type: application/json\r\ncontent-length: 31\r\n\r\n\
+    {\"reply\":\"bad_fields\",\"rule\":7}";
 
 /// Has the order finalized.
 const FINALIZE: &[u8] =
@@ -213,6 +222,18 @@ fn a_reused_key_is_told(rt: HostRuntime) {
         OTHER_ORDER,
         KEY_REUSED,
     );
+    holds(&rt, &plant, ORDERED);
+}
+
+#[test]
+fn a_faulty_request_is_told_and_its_key_stays_free(rt: HostRuntime) {
+    let alloc = rt.alloc();
+    let mut plant = begun_plant(&rt, alloc);
+    succeeds(&rt, alloc, &mut plant, "session", FAULTY_ORDER, NO_DER);
+    holds(&rt, &plant, b"");
+    let input = joined(&rt, alloc, &[FAULTY_ORDER, ORDER, FAULTY_ORDER]);
+    let output = joined(&rt, alloc, &[NO_DER, PLACED, KEY_REUSED]);
+    succeeds(&rt, alloc, &mut plant, "session", &input, &output);
     holds(&rt, &plant, ORDERED);
 }
 

@@ -11,7 +11,7 @@ use Rattle.names_core.specs.declared.fault.NameFault.{NameFault}
 use Rattle.names_core.specs.Name.{name_read}
 use Rattle.names_core.specs.Target.{name_text}
 use Rattle.gate_entries.specs.Spelling.{IsTarget}
-use Rattle.wire_front.specs.Message.{is_plain_byte, domain_text, quoted, names_text, last_begins_with_letter, are_domain_labels, IsDomain, AreDistinct, AreNames}
+use Rattle.wire_front.specs.Message.{is_plain_byte, domain_text, quoted, names_text, last_begins_with_letter, IsDomain, AreDistinct, AreNames}
 use Rattle.wire_front.specs.Reading.{ReadsQuoted, behind, field_at}
 use Rattle.wire_front.proofs.Truths.{left_holds, right_holds}
 use Rattle.wire_front.proofs.CutLemmas.{is_other, field_is, field_found, behind_is, behind_found}
@@ -81,19 +81,6 @@ ok_is left right is = cc
 -- a text is one name's at most
 one_text : (left right : Name) → IsTarget (Dns left) → IsTarget (Dns right) → name_text left ≡ name_text right → left ≡ right
 one_text left right is_left is_right same = ok_is left right (sym is_left ∙ ap name_read same ∙ is_right)
-
-pub no_target : (text : List ℕ) → ((name : Name) → IsTarget (Dns name) → name_text name ≢ text) → (target : Target) → IsDomain target → text ≢ domain_text target
-no_target text none (Dns given) is same = none given is.0 (sym same)
-no_target text none (Ip address) is same = is
-
--- the name that has this text has other labels
-pub target_missed : (text : List ℕ) (name : Name) → IsTarget (Dns name) → name_text name ≡ text → false ≡ are_domain_labels name.labels
-    → (target : Target) → IsDomain target → text ≢ domain_text target
-target_missed text name named spelled refused (Dns given) is same =
-    let e : given ≡ name = one_text given name is.0 named (sym same ∙ sym spelled) in
-    let wrong : are_domain_labels name.labels ≡ true = subst (λ (n : Name). are_domain_labels n.labels ≡ true) e is.1 in
-    absurd cc
-target_missed text name named spelled refused (Ip address) is same = is
 
 pub one_domain : (left right : Target) → IsDomain left → IsDomain right → domain_text left ≡ domain_text right → left ≡ right
 one_domain (Dns left) (Dns right) is_left is_right same = ap Dns (one_text left right is_left.0 is_right.0 same)

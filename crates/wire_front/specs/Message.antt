@@ -63,11 +63,11 @@ last_begins_with_letter ([] ∷ []) = false
 last_begins_with_letter ((byte ∷ bytes) ∷ []) = is_letter byte
 last_begins_with_letter (label ∷ next ∷ labels) = last_begins_with_letter (next ∷ labels)
 
--- the labels have lower-case letters and digits alone
+-- the labels have lower-case letters and digits alone, and the last begins with a letter
 abbrev pub are_domain_labels : List (List ℕ) → Bool
 are_domain_labels labels = list_all (list_all is_plain_byte) labels && last_begins_with_letter labels
 
--- a domain name, maybe a wildcard, with such labels
+-- a name that an entry may keep, maybe a wildcard, with such labels
 abbrev pub IsDomain : Target → Type 0
 IsDomain (Dns name) = IsTarget (Dns name) × IsTrue (are_domain_labels name.labels)
 IsDomain (Ip address) = ⊥
