@@ -12,7 +12,7 @@ use Rattle.gate_entries.specs.declared.reply.Reply.TheVariants.{KeyReused, DiskF
 use Rattle.gate_machine.specs.declared.answer.Answer.{Answer}
 use Rattle.gate_machine.specs.declared.answer.Answer.TheVariants.{Say, Write, Send, NeedDraw}
 use Rattle.gate_machine.specs.Sends.{body_in, sent_by}
-use Rattle.gate_machine.specs.Answer.{Answers, AnswersCommand, AnswersEntry, AnswersNew, AnswersRoom, SaysKept, AnswersFinalize, AnswersOrder, AnswersUnsigned, AnswersDrawn, AnswersSerial, AnswersBody, AnswersSend, reply_to}
+use Rattle.gate_machine.specs.Answer.{Answers, AnswersCommand, AnswersEntry, AnswersNew, AnswersRoom, SaysKept, AnswersFinalize, AnswersOrder, AnswersUnsigned, AnswersDrawn, AnswersSerial, AnswersBody, reply_to}
 use Rattle.gate_machine.specs.Step.{Held, SignerTold, Devices, Wrote, Sent, Does, Acts, is_before_reading}
 
 -- a reply tells neither a clock that failed nor another journal, and an entry that is sent sends its body

@@ -1,5 +1,5 @@
 -- The least rule that an order breaks.
-use Rattle.std.proofs.Common.{◌≡◌, ◌≢◌, ℕ, ◌<◌, ◌≤◌, ◌⊎◌, Bool, true, false, List, [], ◌∷◌, length, Option, Some, None, refl, sym, ap, subst, ◌∙◌, inl, inr, arith}
+use Rattle.std.proofs.Common.{◌≡◌, ◌≢◌, ℕ, ◌<◌, ◌≤◌, Bool, true, false, List, length, Option, Some, None, refl, sym, ap, subst, ◌∙◌, inl, inr, arith}
 use Rattle.std.specs.Option.{is_some}
 use Rattle.std.specs.Prelude.{Result, Ok, Err, IfOk}
 use Rattle.gate_base.specs.declared.memory.NoMemory.{NoMemory}
@@ -7,7 +7,7 @@ use Rattle.gate_base.specs.declared.name.Target.{Target}
 use Rattle.csr10.specs.declared.fault.CsrFault.{CsrFault}
 use Rattle.csr10.specs.declared.fault.CsrFault.TheVariants as requests
 use Rattle.csr10.specs.Csr.{Fields, IsCsr, IsFirstFault}
-use Rattle.gate_machine.specs.Rules.{is_key, HasBadKey, NamesBreak, rule_of, HasFault, IsOther, RequestBreaks, OrderBreaks, IsLeast, TellsLeast}
+use Rattle.gate_machine.specs.Rules.{HasBadKey, NamesBreak, rule_of, HasFault, IsOther, RequestBreaks, OrderBreaks, IsLeast, TellsLeast}
 
 -- ---- which numbers the rules have
 

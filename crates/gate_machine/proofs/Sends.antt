@@ -12,11 +12,11 @@ use Rattle.tbs_build.specs.Small.{IsSerial, IsShort}
 use Rattle.gate_entries.specs.declared.entry.Entry.{Entry}
 use Rattle.gate_entries.specs.declared.entry.What.{What}
 use Rattle.gate_entries.specs.declared.entry.What.TheVariants.{Settings, Order, Send, Signed, Blocked}
-use Rattle.gate_entries.specs.Spelling.{IsWhat, AreTargets}
+use Rattle.gate_entries.specs.Spelling.{IsWhat}
 use Rattle.gate_machine.specs.History.{MeetsRow, ComesSigned, Follows, EachFollows}
 use Rattle.gate_machine.specs.Keys.{is_same}
 use Rattle.gate_machine.specs.Rules.{BreaksNone}
-use Rattle.gate_machine.specs.Sends.{is_order, is_own_order, own_order, is_send_for, sent_for, is_signed_for, signed_for, body_in, signature_in, targets_of, serial_in, send_with, order_in, signed_entry, IsGoodBody, HasOneBodyEach, small_bytes, IsNewBody, IsFresh, HasFreshSerial, TellsNewSerial, IsBodyOf, ComesToSigner}
+use Rattle.gate_machine.specs.Sends.{is_order, is_own_order, own_order, is_send_for, sent_for, is_signed_for, signed_for, body_in, signature_in, targets_of, serial_in, send_with, order_in, IsGoodBody, HasOneBodyEach, small_bytes, IsNewBody, IsFresh, HasFreshSerial, TellsNewSerial, IsBodyOf, ComesToSigner}
 use Rattle.gate_machine.proofs.Bodies.{serial_of_small, all_short}
 
 -- ---- an entry that is found came behind those before it

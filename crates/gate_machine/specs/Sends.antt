@@ -1,6 +1,5 @@
 -- What was sent to the signer, and what may be sent.
-use Rattle.std.specs.Prelude.{◌≡◌, ◌≢◌, ℕ, ◌+◌, ◌*◌, ◌-◌, ◌%◌, ◌<◌, ◌≤◌, ◌^◌, ◌⊎◌, List, [], ◌∷◌, ◌++◌, length, take, drop, map, Bool, true, false, nat_eq, nat_lt, ◌&&◌, if◌then◌else◌, Option, Some, None, find}
-use Rattle.gate_base.specs.declared.moment.Moment.{Moment}
+use Rattle.std.specs.Prelude.{◌≡◌, ◌≢◌, ℕ, ◌+◌, ◌-◌, ◌%◌, ◌<◌, ◌^◌, ◌⊎◌, List, [], ◌∷◌, ◌++◌, length, take, drop, Bool, true, false, nat_eq, nat_lt, ◌&&◌, if◌then◌else◌, Option, Some, None, find}
 use Rattle.gate_base.specs.declared.name.Target.{Target}
 use Rattle.gate_base.specs.declared.sixteen.Sixteen.{Sixteen}
 use Rattle.gate_base.specs.declared.profile.SigAlg.TheVariants.{EcdsaSha256}
@@ -10,7 +9,7 @@ use Rattle.tbs_build.specs.Small.{small_body_tree, IsSerial}
 use Rattle.tbs_build.specs.Certificate.{certificate_of}
 use Rattle.gate_entries.specs.declared.entry.Entry.{Entry}
 use Rattle.gate_entries.specs.declared.entry.What.{What}
-use Rattle.gate_entries.specs.declared.entry.What.TheVariants.{Settings, Order, Send, Signed, Blocked}
+use Rattle.gate_entries.specs.declared.entry.What.TheVariants.{Order, Send, Signed, Blocked}
 use Rattle.gate_entries.specs.Command.{entry_with}
 use Rattle.gate_machine.specs.Keys.{is_same}
 

@@ -3,7 +3,6 @@ use Rattle.std.specs.Option.{option_copied}
 use Rattle.std.proofs.lemmas.Bool.{eq-eqb}
 use Rattle.gate_entries.specs.declared.entry.Entry.{Entry}
 use Rattle.gate_entries.specs.declared.entry.What.TheVariants.{Send}
-use Rattle.gate_machine.specs.Sends.{block_of}
 use Rattle.gate_machine.proofs.Histories.{send_may_come}
 use Rattle.gate_machine.proofs.finalizing.answer_body.Goals as goal
 

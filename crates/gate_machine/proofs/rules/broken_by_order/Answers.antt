@@ -1,7 +1,7 @@
-use Rattle.std.proofs.Common.{◌<◌, List, ℕ, length, sym, subst, arith, false, IsFalse}
+use Rattle.std.proofs.Common.{◌<◌, List, ℕ, sym, subst, arith}
 use Rattle.std.specs.Prelude.{IfOk}
 use Rattle.gate_base.specs.declared.name.Target.{Target}
-use Rattle.gate_machine.specs.Rules.{is_key, NamesBreak, RequestBreaks, TellsLeast}
+use Rattle.gate_machine.specs.Rules.{NamesBreak, RequestBreaks, TellsLeast}
 use Rattle.gate_machine.proofs.LeastRule.{none_broken, names_tell, long_is_least, request_tells}
 use Rattle.gate_machine.proofs.rules.broken_by_order.Goals as goal
 
