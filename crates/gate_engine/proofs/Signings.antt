@@ -5,12 +5,12 @@ use Rattle.gate_entries.specs.declared.entry.Entry.{Entry}
 use Rattle.gate_entries.specs.declared.reply.Reply.{Reply}
 use Rattle.gate_entries.specs.Spelling.{IsEntry}
 use Rattle.gate_machine.specs.History.{journal_size, record_size, IsSignature, Follows, Legal}
-use Rattle.gate_machine.specs.Sends.{is_send_for, order_in, body_in, signed_entry, certificate_bytes}
+use Rattle.gate_machine.specs.Sends.{is_send_for, order_in, signed_entry, certificate_bytes}
 use Rattle.gate_machine.specs.Answer.{IsReadyToSend}
 use Rattle.gate_entries.specs.declared.reply.Reply.TheVariants.{Issued, DiskFault}
 use Rattle.gate_machine.specs.Step.{Held, Holds, Waits, SignerTold, SignerFails, Signs, Sent, Issues, signer_of}
 use Rattle.gate_engine.specs.declared.sending.Signing.{Signing}
-use Rattle.gate_engine.specs.Signing.{signed_as, IsSigning, MayBeSigned, KeepsAs, SignedAs, SignsAs}
+use Rattle.gate_engine.specs.Signing.{signed_as, IsSigning, MayBeSigned, KeepsAs, SignsAs}
 
 same_entry : (signing : Signing) (entry : Entry) (signature : List ℕ) → IsSigning signing entry → signed_as signing signature ≡ signed_entry entry signature
 same_entry signing entry signature is = rw (is.number, is.moment, is.caller, is.order) refl

@@ -11,7 +11,7 @@ use crate::tests::{
     BAD_FIELDS, BEGUN, Gate, KEY_REUSED, PLACED, Said, bytes, caller, empty_plant, gate_over, said,
 };
 use gate_base::{Bytes, Moment};
-use gate_entries::{Command, What, read_entry};
+use gate_entries::{Command, Entry, What, read_entry};
 use std::alloc::Global;
 use std::process::Abort;
 
@@ -79,8 +79,8 @@ fn order(rt: &impl Abort, alloc: Global, fields: Fields<'_>, request: &[u8]) -> 
     ensures { IsCommand result }
 {
     let written = entry_bytes(rt, alloc, fields, request);
-    let entry = read_entry(alloc, written.as_slice()).expect(rt, "an entry");
-    match entry.what {
+    let Entry { what, .. } = read_entry(alloc, written.as_slice()).expect(rt, "an entry");
+    match what {
         What::Order {
             key,
             common,

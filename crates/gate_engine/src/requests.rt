@@ -90,13 +90,20 @@ pub fn point_key(
     key_with(rt, alloc, curve, bits.as_slice())
 }
 
+/// A number that is above 0, as an INTEGER (X.690, section 8.3).
+fn positive(rt: &impl Abort, alloc: Global, octets: &[u8]) -> Vec<u8> {
+    match octets {
+        [0x80..=0xff, ..] => element(rt, alloc, 2, &[b"\0", octets]),
+        _ => element(rt, alloc, 2, &[octets]),
+    }
+}
+
 /// An RSA key: a modulus of so many bytes, of which the first is given, and the content of the exponent.
 pub fn rsa_key(rt: &impl Abort, alloc: Global, first: u8, size: usize, exponent: &[u8]) -> Vec<u8> {
     let mut modulus = Vec::new(alloc);
     put(rt, &mut modulus, &[first]);
     modulus.resize(size, 0x11).expect(rt, "memory");
-    let sign: &[u8] = if 0x7f < first { b"\0" } else { b"" };
-    let modulus = element(rt, alloc, 2, &[sign, modulus.as_slice()]);
+    let modulus = positive(rt, alloc, modulus.as_slice());
     let exponent = element(rt, alloc, 2, &[exponent]);
     let bits = element(rt, alloc, 0x30, &[modulus.as_slice(), exponent.as_slice()]);
     key_with(rt, alloc, RSA, bits.as_slice())

@@ -1,8 +1,7 @@
-use Rattle.std.proofs.Common.{◌≡◌, ◌∷◌, ◌++◌, [], ℕ, List, take, length, arith, refl, inr, sym, ap, subst, ◌∙◌}
+use Rattle.std.proofs.Common.{◌≡◌, ◌∷◌, ◌++◌, [], ℕ, List, take, arith, refl, inr, ap, subst, ◌∙◌}
 use Rattle.std.specs.Option.{option_map}
 use Rattle.std.proofs.lemmas.List.{length-take}
-use Rattle.gate_machine.specs.Step.{SignerTold, signer_of}
-use Rattle.gate_engine.specs.Signing.{SignedAs}
+use Rattle.gate_machine.specs.Step.{SignerTold}
 use Rattle.gate_engine.proofs.Stands.{stands_same}
 use Rattle.gate_engine.proofs.Signings.{signer_left}
 use Rattle.gate_engine.proofs.sending.sign.Goals as goal
