@@ -1,11 +1,13 @@
 """What the acceptance scripts share: the built program, the messages, the replies that are wanted, and checks."""
 
 import base64
+import contextlib
 import pathlib
 import shutil
 import subprocess
 import sys
 import tempfile
+import threading
 
 sys.dont_write_bytecode = True
 
@@ -85,16 +87,62 @@ def run_command(command, sent=b"", folder=None, environment=None, seconds=SECOND
         raise Wrong(f"{pathlib.Path(command[0]).name} {words}: it didn't end within {seconds} seconds") from None
 
 
-def need_openssl():
-    """Installs OpenSSL where it isn't there; the script ends where it can't be had."""
-    if shutil.which("openssl") is None:
-        run_command(["apt-get", "install", "-y", "openssl"], b"", seconds=300)
-    if shutil.which("openssl") is None:
-        sys.exit("openssl isn't there, and couldn't be installed")
+def need_tools(*tools):
+    """Ends the script where one of these tools, which tools/setup installs, isn't there."""
+    for tool in tools:
+        if shutil.which(tool) is None:
+            sys.exit(f"{tool} isn't there: tools/setup installs it")
 
 
 def run_gate(arguments, sent=b"", seconds=SECONDS):
     return run_command([PROGRAM, *arguments], sent, seconds=seconds)
+
+
+class Session:
+    """A session that runs while its input is open, within a `with`."""
+
+    def __init__(self, command, **how):
+        pipe = subprocess.PIPE
+        self.process = subprocess.Popen(command, stdin=pipe, stdout=pipe, stderr=pipe, **how)
+        self.late = threading.Timer(SECONDS, self.process.kill)
+
+    def __enter__(self):
+        self.late.start()
+        return self
+
+    def __exit__(self, *_):
+        self.late.cancel()
+        self.process.kill()
+        self.process.wait()
+        for stream in (self.process.stdin, self.process.stdout, self.process.stderr):
+            with contextlib.suppress(OSError):
+                stream.close()
+
+    def answers(self, what, message, wanted):
+        """The message has this reply, which comes while more input may follow."""
+        self.process.stdin.write(message)
+        self.process.stdin.flush()
+        check(what, wanted, self.process.stdout.read(len(wanted)))
+
+    def ends(self, status=0):
+        """Its input ends, and it ends with this status and no further output. Returns standard error."""
+        output, error = self.process.communicate()
+        check("output behind the replies", b"", output)
+        check("exit status of the session", status, self.process.returncode)
+        return error
+
+
+def check_error(what, name, found):
+    """Standard error tells this status, and behind it, indented by two spaces, why; it is empty where there is no name."""
+    if name is None:
+        check(f"{what}: standard error", b"", found)
+        return
+    first = [f"gate: {name}"] + ([USAGE] if name == "Usage" else [])
+    lines = found.decode(errors="replace").splitlines()
+    check(f"{what}: first lines of standard error", first, lines[: len(first)])
+    check(f"{what}: further lines, which are indented", True, len(lines) > len(first))
+    for line in lines[len(first) :]:
+        check(f"{what}: the line {line!r} is indented by two spaces", True, line.startswith("  ") and line[2:3] != " ")
 
 
 def records_of(written):
@@ -126,6 +174,10 @@ class Gate:
         settings = self.settings if settings is None else settings
         return run_gate([str(journal), str(settings), signer, *words], sent, seconds)
 
+    def session(self, signer=SIGNER, **how):
+        """A session that runs while its input is open."""
+        return Session([PROGRAM, self.journal, self.settings, signer, "session"], **how)
+
     def bytes(self):
         return self.journal.read_bytes() if self.journal.exists() else None
 
@@ -140,8 +192,8 @@ class Gate:
         check(f"{what}: exit status", 0, found.returncode)
         check(f"{what}: output", output, found.stdout)
 
-    def answers(self, messages, replies, status=0, error="", labels=None, seconds=SECONDS):
-        """A session over these messages gives each its reply, and ends with this status and error."""
+    def answers(self, messages, replies, status=0, name=None, labels=None, seconds=SECONDS):
+        """A session over these messages gives each its reply, and ends with this status and its name."""
         found = self.run("session", sent=b"".join(messages), seconds=seconds)
         at = 0
         for place, wanted in enumerate(replies):
@@ -149,18 +201,18 @@ class Gate:
             check(f"the reply to {label}", wanted, found.stdout[at : at + len(wanted)])
             at += len(wanted)
         check("output behind the replies", b"", found.stdout[at:])
-        check("standard error", error, found.stderr.decode(errors="replace"))
+        check_error("session", name, found.stderr)
         check("exit status", status, found.returncode)
 
     def refuses(self, what, exit_status, name, *words, output=b"", **more):
-        """It ends with this status and its name, and the journal's bytes are as before."""
+        """It ends with this status and its name, and the journal's bytes are as before. Returns standard error's text."""
         before = self.bytes()
         found = self.run(*words, **more)
-        lines = [f"gate: {name}"] + ([USAGE] if name == "Usage" else [])
         check(f"{what}: exit status", exit_status, found.returncode)
-        check(f"{what}: lines on standard error", sorted(lines), sorted(found.stderr.decode(errors="replace").splitlines()))
+        check_error(what, name, found.stderr)
         check(f"{what}: output", output, found.stdout)
         check(f"{what}: the journal is as before", before, self.bytes())
+        return found.stderr.decode(errors="replace")
 
 
 def main(cases):

@@ -5,6 +5,7 @@ import hashlib
 import socket
 import sys
 import threading
+import time
 
 SECONDS = 10
 
@@ -21,11 +22,13 @@ class SigningDevice:
 
     `signer` is the program's word for it, and `bodies` are all that it got, in their order. It closes without an answer
     at the first `drops` bodies. Where `size` is given, an answer has that length and as many zero bytes. `holding` is
-    called with each body while the device holds it, before it answers or closes.
+    called with each body while the device holds it, before it answers or closes. `changed` is what is sent in place of
+    an answer's bytes, and each byte of it is sent after a `pause` in seconds.
     """
 
-    def __init__(self, secret=b"", drops=0, size=None, port=0, holding=lambda body: None):
+    def __init__(self, secret=b"", drops=0, size=None, port=0, holding=lambda body: None, changed=bytes, pause=0):
         self.secret, self.drops, self.size, self.holding, self.bodies = secret, drops, size, holding, []
+        self.changed, self.pause = changed, pause
         self.listener = socket.create_server(("127.0.0.1", port))
         self.signer = f"loopback:{self.listener.getsockname()[1]}"
         self.thread = threading.Thread(target=self.serve, daemon=True)
@@ -62,7 +65,13 @@ class SigningDevice:
         self.holding(body)
         if len(self.bodies) > self.drops:
             reply = self.signature(body) if self.size is None else bytes(self.size)
-            connection.sendall(len(reply).to_bytes(2, "big") + reply)
+            self.send(connection, self.changed(len(reply).to_bytes(2, "big") + reply))
+
+    def send(self, connection, answer):
+        pieces = [bytes([byte]) for byte in answer] if self.pause else [answer]
+        for piece in pieces:
+            time.sleep(self.pause)
+            connection.sendall(piece)
 
 
 def main():

@@ -54,6 +54,8 @@ pub domain_passes : (bytes : List ℕ) → IsDomain bytes → is_domain bytes �
 domain_passes bytes h =
     ap is_domain h.printed ∙ ap (list_all is_label) (split_labels h.first h.others h.labels) ∙ labels_pass (h.first ∷ h.others) h.labels
 
+pub ruleset domains = (domain_is, domain_passes)
+
 -- a byte of a label, or a dot
 abbrev pub is_domain_byte : ℕ → Bool
 is_domain_byte b = is_label_byte b || b == 46

@@ -5,3 +5,4 @@ pub mod IssueLemmas
 pub mod Labels
 pub mod ParameterLemmas
 pub mod Places
+pub mod EmptyNames

@@ -1,5 +1,6 @@
 -- Which CAA records are relevant for a name (RFC 8659, section 3), and for how long what was seen of them may be used
--- (Baseline Requirements, section 4.2.2.1: 8 hours, or the time to live of the records if that is longer).
+-- (BR 2.1.5, section 3.2.2.8: 8 hours, or the time to live of the records if that is longer). That a question which was not answered
+-- never permits, and that an answer without records may be used for 8 hours, are this project's own rules.
 use Rattle.std.specs.Prelude.{ℕ, ◌+◌, max, Bool, true, false, List, [], ◌∷◌, Option, Some, None, nat_lt, if◌then◌else◌}
 use Rattle.std.specs.List.{prefix_len, slice_get}
 use Rattle.gate_base.specs.declared.seen.CaaAnswer.{CaaAnswer}

@@ -1,6 +1,6 @@
-ghost use Rattle.std.specs.Prelude.{◌≡◌, ℕ, List, IfSome, IfNone};
+ghost use Rattle.std.specs.Prelude.{◌≡◌, ◌↔◌, ℕ, List, IsTrue, IfSome, IfNone};
 ghost use Rattle.std.specs.Option.{option_map};
-ghost use Rattle.caa_climb.specs.IssueValue.{IsIssueValue};
+ghost use Rattle.caa_climb.specs.IssueValue.{IsDomain, IsIssueValue};
 ghost use Rattle.caa_climb.specs.Reading.{read_value, read_cut, parameters_in};
 
 use crate::pieces::{are_pieces, cut, ended, is_domain, trimmed, without_lead};
@@ -51,6 +51,14 @@ fn parameters_in(text: &[u8]) -> Option<&[u8]>
         return None;
     }
     Some(ended(text))
+}
+
+/// Whether a text is an issuer-domain-name (RFC 8659, section 4.2).
+#[tactic(auto, using(crate::proofs::Domains::domains))]
+pub fn is_issuer_domain_name(text: &[u8]) -> bool
+    ensures { IsTrue result ↔ IsDomain text.now }
+{
+    is_domain(text)
 }
 
 /// A value has one issuer and one list of parameters at most, and those are what reading gives.

@@ -10,7 +10,7 @@ mod relevant;
 
 pub use answer::Permission;
 pub use climbing::{climb, fresh_until};
-pub use issue_value::{IssueValue, one_reading, read_issue_value};
+pub use issue_value::{IssueValue, is_issuer_domain_name, one_reading, read_issue_value};
 pub use permitting::permission;
 pub use relevant::Climb;
 

@@ -1,7 +1,7 @@
 ghost use Rattle.std.specs.Prelude.{◌≡◌, ◌&&◌};
 ghost use Rattle.std.specs.List.{list_any, position};
 ghost use Rattle.std.specs.Str.{str_eq_ignore_ascii_case};
-ghost use Rattle.caa_climb.specs.Permission.{has_tag, is_critical, restricting_tag, permits, is_allowed, permission_of};
+ghost use Rattle.caa_climb.specs.Permission.{has_tag, is_critical, restricting_tag, is_among, named, permits, is_allowed, permission_of};
 
 use crate::answer::Permission;
 use crate::issue_value::read_issue_value;
@@ -20,7 +20,16 @@ const IODEF: &[u8] = b"iodef";
 const CRITICAL: u8 = 128;
 
 /// Whether the records permit that one of these issuers issues.
+#[tactic(auto, using(crate::proofs::EmptyNames::permission_named))]
 pub fn permission(rows: &CaaRows, wild: bool, issuers: &ByteLists) -> Permission
+    ensures exact { result ≡ permission_of rows.now wild issuers.now }
+    // An empty name among the issuers permits nobody: it is as if it weren't there.
+    ensures nobody { result ≡ permission_of rows.now wild (named issuers.now) }
+{
+    judge(rows, wild, issuers)
+}
+
+fn judge(rows: &CaaRows, wild: bool, issuers: &ByteLists) -> Permission
     ensures { result ≡ permission_of rows.now wild issuers.now }
 {
     let rows = rows.as_slice();
@@ -103,8 +112,14 @@ fn permits(row: &CaaRow, issuers: &ByteLists) -> bool
     }
 }
 
-/// Whether the issuer is one of these, without regard to case.
+/// Whether the issuer is one of these, without regard to case; the empty issuer is none.
 fn is_among(issuer: &[u8], issuers: &ByteLists) -> bool
+    ensures { result ≡ is_among issuers.now issuer.now }
+{
+    !issuer.is_empty() && are_any_same(issuer, issuers)
+}
+
+fn are_any_same(issuer: &[u8], issuers: &ByteLists) -> bool
     ensures { result ≡ list_any (λ one. str_eq_ignore_ascii_case one issuer.now) issuers.now }
 {
     issuers

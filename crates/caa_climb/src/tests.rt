@@ -1,4 +1,6 @@
-use crate::{Climb, Permission, climb, fresh_until, permission, read_issue_value};
+use crate::{
+    Climb, Permission, climb, fresh_until, is_issuer_domain_name, permission, read_issue_value,
+};
 use gate_base::{
     ByteLists, Bytes, CaaAnswer, CaaAnswers, CaaRow, CaaRows, CaaSeen, Labels, Moment, Name,
     NoMemory,
@@ -58,6 +60,23 @@ fn issue_values_are_read(rt: HostRuntime) {
             }
             (read, want) => assert_eq!(rt; read.is_some(), want.is_some(), "{value:?}"),
         }
+    }
+}
+
+#[test]
+fn issuer_domain_names_are_told(rt: HostRuntime) {
+    let rows = [
+        ("ca.example", true),
+        ("P--9", true),
+        ("", false),
+        ("ca..example", false),
+        ("ca.example.", false),
+        ("-ca.example", false),
+        (" ca.example", false),
+        ("ca.example; a=b", false),
+    ];
+    for (text, want) in rows {
+        assert_eq!(rt; is_issuer_domain_name(text.as_bytes()), want, "{text:?}");
     }
 }
 
@@ -147,7 +166,7 @@ fn the_root_is_never_asked(rt: HostRuntime) -> Result<(), Fail> {
 #[test]
 fn records_permit(rt: HostRuntime) -> Result<(), Fail> {
     let alloc = rt.alloc();
-    let issuers = texts(alloc, &["pki.example", "ca.example"])?;
+    let issuers = texts(alloc, &["pki.example", "", "ca.example"])?;
     let both = [
         (0, "issue", "ca.example"),
         (0, "issuewild", "other.example"),
@@ -165,6 +184,8 @@ fn records_permit(rt: HostRuntime) -> Result<(), Fail> {
         (128, "issue", "other.example", Permission::Denied),
         (0, "issue", "%%%%%", Permission::Denied),
         (0, "issuewild", "other.example", Permission::Allowed),
+        (0, "issue", "", Permission::Denied),
+        (0, "issue", "; a=b", Permission::Denied),
     ];
     for (flags, tag, value, want) in rows {
         let one = set(alloc, &[(flags, tag, value)])?;

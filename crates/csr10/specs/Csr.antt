@@ -91,7 +91,8 @@ pub record HasBadName (request : Request) (place : ℕ) : Type 0 where
   pub spelled : SpellsNames value names
   pub first : targets_of names ≡ Err place
 
--- the first fault of a request; want of memory is free
+-- the first fault of a request: F09 its version, F10 its key, F11 two subjectAltNames, F12 a name; out of memory may be returned
+-- at any time
 abbrev pub HasFault : Request → CsrFault → Type 0
 HasFault request (Der fault) = ⊥
 HasFault request Shape = ⊥
@@ -104,7 +105,7 @@ HasFault request NoMemory = Unit {0}
 abbrev pub OfRequest : List ℕ → CsrFault → Type 0
 OfRequest bytes fault = (request : Request) × IsRequest bytes request × HasFault request fault
 
--- the first fault of bytes; want of memory is free
+-- the first fault of bytes: F07 they are no DER, F08 no request, F09 to F12 as above; out of memory may be returned at any time
 abbrev pub IsFirstFault : List ℕ → CsrFault → Type 0
 IsFirstFault bytes (Der fault) = der.IsFirstFault bytes fault
 IsFirstFault bytes Shape = HasBadShape bytes

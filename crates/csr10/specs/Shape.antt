@@ -2,7 +2,7 @@
 use Rattle.std.specs.Prelude.{ℕ, Bool, false, List, [], ◌∷◌, ◌++◌, Option, Some, None, option_map, ◌==◌, if◌then◌else◌}
 use Rattle.std.specs.Str.{bytes_eq}
 use Rattle.der_text.specs.Tree.{Node, primitive, constructed, Nodes, no_nodes, also}
-use Rattle.public_key.specs.Parts.{◌>>=◌, parts_with, primitive_at, constructed_at, at_end}
+use Rattle.der_text.specs.Parts.{◌>>=◌, parts_with, primitive_at, constructed_at, at_end}
 
 -- CertificationRequestInfo (RFC 2986, section 4.1): the version, a subject, a key and [0] the attributes.
 -- Here the content of the version and the attributes.
@@ -16,7 +16,9 @@ info_of parts = do
 
 -- AlgorithmIdentifier (RFC 5280, section 4.1.1.2): an OBJECT IDENTIFIER, and what belongs to it
 abbrev pub algorithm_of : Nodes → Option (List ℕ)
-algorithm_of parts = option_map (λ found. found.0) (primitive_at 6 parts)
+algorithm_of parts = do
+  found ← primitive_at 6 parts
+  Some found.0
 
 -- CertificationRequest (RFC 2986, section 4.2): the info, the algorithm and the signature
 abbrev pub request_of : Node → Option (List ℕ × Nodes)
@@ -57,7 +59,8 @@ extension_of tree = do
   value ← primitive_at 4 (behind_boolean identifier.1)
   at_end value.1 (identifier.0, value.0)
 
--- Attribute (RFC 2986, section 4.1): its type and the SET of its values
+-- Attribute (RFC 2986, section 4.1): its type and the SET of its values. Laxer than the RFC, an attribute that is not looked
+-- at may have an empty SET.
 abbrev pub attribute_of : Node → Option (List ℕ × Nodes)
 attribute_of tree = do
   parts ← parts_with 48 tree

@@ -6,7 +6,7 @@ use Rattle.csr10.specs.declared.fault.CsrFault.{CsrFault}
 use Rattle.csr10.specs.declared.fault.CsrFault.TheVariants.{Der, Shape, Version, Key, SanTwice, SanName, NoMemory}
 use Rattle.csr10.specs.Csr.{Request, HasBadShape, HasTwoSans, HasBadName}
 
--- a fault is a bad shape, where this holds, or want of memory
+-- a fault is a bad shape, where this holds, or out of memory
 abbrev pub IfShape : CsrFault → Type 0 → Type 0
 IfShape (Der fault) P = ⊥
 IfShape Shape P = P

@@ -7,19 +7,9 @@ ghost use Rattle.csr10.specs.Shape.{joined, each_of};
 ghost use Rattle.csr10.specs.Told.{IfShape};
 
 use crate::fault::CsrFault;
-use der_text::Tree;
-use public_key::{are_none, constructed_parts, take_constructed, take_primitive};
+use der_text::tag::{BOOLEAN, OBJECT_IDENTIFIER, OCTET_STRING, SEQUENCE, SET};
+use der_text::{Tree, are_none, constructed_parts, take_constructed, take_primitive};
 use std::alloc::Global;
-
-const BOOLEAN: u8 = 0x01;
-
-const OCTET_STRING: u8 = 0x04;
-
-pub const OBJECT_IDENTIFIER: u8 = 0x06;
-
-pub const SEQUENCE: u8 = 0x30;
-
-const SET: u8 = 0x31;
 
 /// 1.2.840.113549.1.9.14
 const EXTENSION_REQUEST: [u8; 9] = [0x2a, 0x86, 0x48, 0x86, 0xf7, 0x0d, 0x01, 0x09, 0x0e];

@@ -6,7 +6,7 @@ ghost use Rattle.csr10.specs.Form.{attribute_tree, IsExtensionTree, IsRequestTre
 ghost use Rattle.csr10.specs.Shape as shape;
 ghost use Rattle.csr10.specs.Csr.{Fields, IsCsr, IsFirstFault};
 
-use der_text::{one_first_fault, what_is_spelled_is_read};
+use der_text::{one_first_fault, parts_are_read_as_they_stand, what_is_spelled_is_read};
 use public_key::one_kind;
 
 /// Bytes are a request with one set of fields at most, and where they are one they have no fault.
@@ -30,4 +30,6 @@ pub fn forms_are_read()
         (shape.attribute_of tree ≡ Some (type, values)) ↔ (tree ≡ attribute_tree type values) }
     ensures extensions { (tree : Node) (identifier value : List ℕ) →
         (shape.extension_of tree ≡ Some (identifier, value)) ↔ IsExtensionTree tree identifier value }
-{}
+{
+    parts_are_read_as_they_stand();
+}

@@ -6,18 +6,17 @@ ghost use Rattle.csr10.specs.Csr.{IsRequest};
 ghost use Rattle.csr10.specs.View.{request};
 ghost use Rattle.csr10.specs.Told.{IsOuterFault};
 
-use crate::extension::{OBJECT_IDENTIFIER, SEQUENCE, sans_of};
+use crate::extension::sans_of;
 use crate::fault::CsrFault;
 use crate::name::check_values;
-use der_text::{ReadFault, Tree, part_at, read_tree};
-use public_key::{are_none, constructed_parts, take_constructed, take_primitive};
+use der_text::tag::{BIT_STRING, INTEGER, OBJECT_IDENTIFIER, SEQUENCE};
+use der_text::{
+    ReadFault, Tree, are_none, constructed_parts, part_at, read_tree, take_constructed,
+    take_primitive,
+};
 use std::alloc::Global;
 
-const INTEGER: u8 = 0x02;
-
-const BIT_STRING: u8 = 0x03;
-
-/// The tag of the attributes.
+/// The tag of the attributes, `[0]`.
 const ATTRIBUTES: u8 = 0xa0;
 
 /// What a request says: its version, its key, and the values of its subjectAltName extensions.

@@ -1,5 +1,7 @@
 use crate::{CsrFault, read_request};
-use std::alloc::{AllocError, Global};
+use der_text::{DerFault, DerKind, push_element, tag};
+use gate_base::NoMemory;
+use std::alloc::Global;
 use std::test::Fail;
 
 /// A key on P-256, up to the 64 bytes of its point.
@@ -146,6 +148,15 @@ const FAULTS: &[Row] = &[
         END,
         2,
     ),
+    // a subjectAltName that is no DER
+    (
+        b"\0",
+        KEY,
+        b"\x30\x19\x06\x09\x2a\x86\x48\x86\xf7\x0d\x01\x09\x0e\x31\x0c\x30\x0a\x30\x08\x06\x03\x55\
+        \x1d\x11\x04\x01\x30",
+        END,
+        2,
+    ),
     // before the version
     (
         b"\x01",
@@ -219,37 +230,65 @@ const FAULTS: &[Row] = &[
     ),
 ];
 
-fn append(out: &mut Vec<u8>, piece: &[u8]) -> Result<(), AllocError> {
-    for byte in piece {
-        out.push(*byte)?;
-    }
-    Ok(())
-}
+/// The type of an extensionRequest, and the identifier of a subjectAltName.
+const EXTENSION_REQUEST: &[u8] = b"\x06\x09\x2a\x86\x48\x86\xf7\x0d\x01\x09\x0e";
 
-/// An element whose content has fewer than 256 bytes.
-fn element(alloc: Global, tag: u8, content: &[u8]) -> Result<Vec<u8>, AllocError> {
+const SUBJECT_ALT_NAME: &[u8] = b"\x06\x03\x55\x1d\x11";
+
+/// Each fault with its text.
+const TEXTS: &[(CsrFault, &str)] = &[
+    (
+        CsrFault::Der(DerFault {
+            kind: DerKind::Short,
+            place: 7,
+        }),
+        "Short at byte 7",
+    ),
+    (CsrFault::Shape, "no certificate request"),
+    (CsrFault::Version, "a version other than 0"),
+    (CsrFault::Key, "a key that is not certified"),
+    (CsrFault::SanTwice, "two subjectAltName extensions"),
+    (CsrFault::SanName(3), "name 3 is no target"),
+    (CsrFault::NoMemory, "out of memory"),
+];
+
+/// An element whose content, of fewer than 65,536 bytes, is a front and a back.
+fn element(alloc: Global, tag: u8, front: &[u8], back: &[u8]) -> Result<Vec<u8>, NoMemory> {
+    let mut content = Vec::new(alloc);
+    content.extend_from_slice(front)?;
+    content.extend_from_slice(back)?;
     let mut out = Vec::new(alloc);
-    out.push(tag)?;
-    if content.len() >= 128 {
-        out.push(0x81)?;
+    if content.len() >= 0x1_0000 {
+        return Err(NoMemory);
     }
-    out.push((content.len() % 256) as u8)?;
-    append(&mut out, content)?;
+    push_element(tag, &content, &mut out)?;
     Ok(out)
 }
 
-fn request(alloc: Global, row: &Row) -> Result<Vec<u8>, AllocError> {
-    let (version, key, attributes, end, _) = row;
-    let mut info = element(alloc, 0x02, version)?;
-    append(&mut info, b"\x30\0")?;
-    append(&mut info, key)?;
-    for _ in 0..64 {
-        info.push(0x11)?;
+/// An attribute that asks for so many names.
+fn names(alloc: Global, count: usize) -> Result<Vec<u8>, NoMemory> {
+    let mut names = Vec::new(alloc);
+    for _ in 0..count {
+        names.extend_from_slice(b"\x82\x05a.com")?;
     }
-    append(&mut info, element(alloc, 0xa0, attributes)?.as_slice())?;
-    let mut content = element(alloc, 0x30, info.as_slice())?;
-    append(&mut content, end)?;
-    element(alloc, 0x30, content.as_slice())
+    let names = element(alloc, tag::SEQUENCE, &names, b"")?;
+    let value = element(alloc, tag::OCTET_STRING, &names, b"")?;
+    let extension = element(alloc, tag::SEQUENCE, SUBJECT_ALT_NAME, &value)?;
+    let extensions = element(alloc, tag::SEQUENCE, &extension, b"")?;
+    let values = element(alloc, tag::SET, &extensions, b"")?;
+    element(alloc, tag::SEQUENCE, EXTENSION_REQUEST, &values)
+}
+
+/// A request of the row's version, key and end, with these attributes.
+fn request(alloc: Global, row: &Row, attributes: &[u8]) -> Result<Vec<u8>, NoMemory> {
+    let (version, key, _, end, _) = row;
+    let mut info = element(alloc, tag::INTEGER, version, b"")?;
+    info.extend_from_slice(b"\x30\0")?;
+    info.extend_from_slice(key)?;
+    info.extend_from_slice(&[0x11; 64])?;
+    let attributes = element(alloc, 0xa0, attributes, b"")?;
+    let info = element(alloc, tag::SEQUENCE, &info, &attributes)?;
+    element(alloc, tag::SEQUENCE, &info, end)
 }
 
 /// A number for what is told: a fault's own, 100 without a subjectAltName, or 200 and how many targets it has.
@@ -269,31 +308,55 @@ fn told(alloc: Global, bytes: &[u8]) -> u64 {
     }
 }
 
-/// The first row that gets something else than it says.
-fn first_wrong(alloc: Global, rows: &[Row]) -> Result<usize, AllocError> {
-    for at in 0..rows.len() {
-        let row = rows[at];
-        if told(alloc, request(alloc, &row)?.as_slice()) != row.4 {
-            return Ok(at);
-        }
+/// What is told of the request of a row.
+fn told_of(alloc: Global, row: &Row) -> u64 {
+    match request(alloc, row, row.2) {
+        Ok(bytes) => told(alloc, &bytes),
+        Err(NoMemory) => 9,
     }
-    Ok(rows.len())
+}
+
+/// What is told of a request for so many names.
+fn told_of_names(alloc: Global, count: usize) -> u64 {
+    match names(alloc, count) {
+        Ok(attribute) => match request(alloc, &GOOD[0], &attribute) {
+            Ok(bytes) => told(alloc, &bytes),
+            Err(NoMemory) => 9,
+        },
+        Err(NoMemory) => 9,
+    }
+}
+
+/// Whether a fault is printed so.
+fn says(alloc: Global, fault: &CsrFault, text: &str) -> bool {
+    match fault.to_string(alloc) {
+        Ok(said) => said.as_str() == text,
+        Err(_) => false,
+    }
 }
 
 #[test]
-fn requests_and_their_faults_are_told(rt: HostRuntime) -> Result<(), Fail> {
+fn requests_and_their_faults_are_told(rt: HostRuntime) {
     let alloc = rt.alloc();
-    assert_eq!(rt; first_wrong(alloc, GOOD)?, GOOD.len());
-    assert_eq!(rt; first_wrong(alloc, FAULTS)?, FAULTS.len());
-    assert_eq!(rt; told(alloc, b"\x30\x82\x01"), 1);
-    assert_eq!(rt; told(alloc, b"\x31\0"), 2);
-    Ok(())
+    for row in GOOD {
+        assert_eq!(rt; told_of(alloc, row), row.4, "{row:?}");
+    }
+    for row in FAULTS {
+        assert_eq!(rt; told_of(alloc, row), row.4, "{row:?}");
+    }
+    for (bytes, fault) in [(b"\x30\x82\x01".as_slice(), 1), (b"\x31\0", 2)] {
+        assert_eq!(rt; told(alloc, bytes), fault, "{bytes:?}");
+    }
+    assert_eq!(rt; told_of_names(alloc, 300), 500);
+    for (fault, text) in TEXTS {
+        assert!(rt; says(alloc, fault, text), "{text}");
+    }
 }
 
 #[test]
 fn the_key_stands_in_the_request(rt: HostRuntime) -> Result<(), Fail> {
     let alloc = rt.alloc();
-    let bytes = request(alloc, &GOOD[0])?;
+    let bytes = request(alloc, &GOOD[0], b"")?;
     assert_eq!(rt; bytes.len(), 118);
     if let Ok(fields) = read_request(alloc, bytes.as_slice()) {
         assert_eq!(rt; Some(fields.spki), bytes.get(9..100));

@@ -78,6 +78,25 @@ few_octets n =
       ]
     ]
 
+pub two_octets : (n : ℕ) → n < 2 ^ 8 → length (length_octets n) ≤ 2
+unfolding length_octets
+two_octets n low =
+    elim (cases_lt n 128) [
+      | inl a ↦ rw (lt-ltb n 128 a) (omega arith)
+      | inr a ↦ rw (le-ltb n 128 a, lt-ltb n 256 low) (omega arith)
+    ]
+
+pub three_octets : (n : ℕ) → n < 2 ^ 16 → length (length_octets n) ≤ 3
+unfolding length_octets
+three_octets n low =
+    elim (cases_lt n 128) [
+      | inl a ↦ rw (lt-ltb n 128 a) (omega arith)
+      | inr a ↦ elim (cases_lt n 256) [
+        | inl b ↦ rw (le-ltb n 128 a, lt-ltb n 256 b) (omega arith)
+        | inr b ↦ rw (le-ltb n 128 a, le-ltb n 256 b, lt-ltb n 65536 low) (omega arith)
+      ]
+    ]
+
 -- ---- what is written is read
 
 -- needed length bytes that are none too many
@@ -88,7 +107,7 @@ long_again count n octets rest counted value needed first =
     let large : ltb n 128 ≡ false = le-ltb n 128 needed in
     rw (there, take_at octets rest count counted, drop_at octets rest count counted, value, large, first) refl
 
-length_again : (n : ℕ) (rest : List ℕ) → n < 2 ^ 32 → length_at (length_octets n ++ rest) ≡ Ok (n, rest)
+pub length_again : (n : ℕ) (rest : List ℕ) → n < 2 ^ 32 → length_at (length_octets n ++ rest) ≡ Ok (n, rest)
 unfolding length_at
 length_again n rest high =
     elim (cases_lt n 128) [
@@ -119,6 +138,15 @@ length_again n rest high =
         ]
       ]
     ]
+
+abbrev counted : ℕ → List ℕ → ℕ × List ℕ
+counted n rest = (n, rest)
+
+pub one_content : (tag other : ℕ) (content others : List ℕ) → length content < 2 ^ 32 → length others < 2 ^ 32 → element tag content ≡ element other others → content ≡ others
+one_content tag other content others size size' e =
+    let behind : length_octets (length content) ++ content ≡ length_octets (length others) ++ others = cc e in
+    let read = sym (length_again (length content) content size) ∙ ap length_at behind ∙ length_again (length others) others size' in
+    ap (λ (p : ℕ × List ℕ). p.1) (ok_is (counted (length content) content) (counted (length others) others) read)
 
 pub front_again : (levels tag : ℕ) (content after : List ℕ) → IsElement tag content → front_of (suc levels) (element tag content ++ after) ≡ Ok (record { tag = tag; content = content; after = after })
 unfolding front_of content_at

@@ -2,5 +2,6 @@ pub mod Heads
 pub mod Trees
 pub mod Readings
 pub mod Views
-pub mod Parts
+pub mod Paths
 pub mod Faults
+pub mod Inversion

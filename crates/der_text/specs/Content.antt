@@ -28,7 +28,7 @@ is_bit_string [] = false
 is_bit_string (unused ∷ []) = unused == 0
 is_bit_string (unused ∷ b ∷ rest) = nat_lt unused 8 && (last_of b rest % 2 ^ unused == 0)
 
--- a NULL is empty (8.8)
+-- a NULL is empty (8.8.2)
 abbrev pub is_null : List ℕ → Bool
 is_null [] = true
 is_null (b ∷ rest) = false
@@ -51,7 +51,8 @@ is_primitive_content tag content =
     if tag == 3 then is_bit_string content else if tag == 5 then is_null content else
     if tag == 6 then is_object_identifier content else not ((tag == 16) || (tag == 17))
 
--- The rule of a tag: of the constructed universal types DER has SEQUENCE and SET, since strings are primitive (10.2).
+-- The rule of a tag: string types are primitive (10.2). DER has other constructed universal types than SEQUENCE and SET, such as
+-- EXTERNAL; refusing them is this project's own rule.
 -- The contents of other classes, and the order in a SET, are not judged.
 unfoldable pub keeps_rule : ℕ → List ℕ → Bool
 keeps_rule tag content =

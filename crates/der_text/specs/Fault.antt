@@ -104,7 +104,7 @@ pub record IsTrailing (fault : DerFault) (bytes : List ℕ) : Type 0 where
 abbrev pub IsFirstFault : List ℕ → DerFault → Type 0
 IsFirstFault bytes fault = HasFault 32 fault 0 bytes ⊎ IsTrailing fault bytes
 
--- a fault of the bytes is one of which this holds; want of memory is free
+-- a fault of the bytes is one of which this holds; out of memory may be returned at any time
 abbrev pub IfDer : ReadFault → (DerFault → Type 0) → Type 0
 IfDer (faults.Der fault) P = P fault
 IfDer faults.NoMemory P = Unit {0}

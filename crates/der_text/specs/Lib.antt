@@ -5,3 +5,4 @@ pub mod Front
 pub mod Fault
 pub mod Reading
 pub mod Part
+pub mod Parts

@@ -21,6 +21,10 @@ length_octets n =
     if nat_lt n (2 ^ 24) then 131 ∷ n / 2 ^ 16 ∷ (n / 2 ^ 8) % 2 ^ 8 ∷ n % 2 ^ 8 ∷ [] else
     132 ∷ n / 2 ^ 24 ∷ (n / 2 ^ 16) % 2 ^ 8 ∷ (n / 2 ^ 8) % 2 ^ 8 ∷ n % 2 ^ 8 ∷ []
 
+-- what stands before a content of such a length (8.1.1): the tag and the length
+abbrev pub head_of : ℕ → ℕ → List ℕ
+head_of tag len = tag ∷ length_octets len
+
 -- an element (8.1.1): its tag, the length of its content, and the content
 abbrev pub element : ℕ → List ℕ → List ℕ
 element tag content = tag ∷ length_octets (length content) ++ content
@@ -28,6 +32,10 @@ element tag content = tag ∷ length_octets (length content) ++ content
 -- how many bytes stand before such a content
 abbrev pub head_length : List ℕ → ℕ
 head_length content = 1 + length (length_octets (length content))
+
+-- how many bytes an element has whose content has so many
+abbrev pub element_length : ℕ → ℕ
+element_length len = 1 + length (length_octets len) + len
 
 -- the bytes of a tree, and of several one after another
 abbrev mutual

@@ -1,6 +1,9 @@
+use crate::element::{element_len, push_element, push_head};
 use crate::fault::{DerFault, DerKind, ReadFault};
 use crate::part::part_at;
+use crate::parts::{are_none, constructed_parts, skip_first, take_constructed, take_primitive};
 use crate::reading::read_tree;
+use crate::tag;
 use crate::writing::write_tree;
 use std::alloc::Global;
 use std::process::Abort;
@@ -199,6 +202,16 @@ const TREES: &[&[u8]] = &[
     b"\x30\x08\x30\x02\x05\x00\x02\x02\x01\x00",
 ];
 
+/// Each kind with its text.
+const TEXTS: &[(DerKind, &str)] = &[
+    (DerKind::Short, "Short at byte 3"),
+    (DerKind::LongForm, "LongForm at byte 3"),
+    (DerKind::NotShortest, "NotShortest at byte 3"),
+    (DerKind::BadContent, "BadContent at byte 3"),
+    (DerKind::TooDeep, "TooDeep at byte 3"),
+    (DerKind::Trailing, "Trailing at byte 3"),
+];
+
 /// What is told of the bytes: nothing where they spell a tree.
 fn told(alloc: Global, bytes: &[u8]) -> Result<Option<DerFault>, ReadFault> {
     match read_tree(alloc, bytes) {
@@ -230,6 +243,16 @@ fn nested(alloc: Global, sequences: u8) -> Result<Vec<u8>, Fail> {
     Ok(bytes)
 }
 
+/// A SEQUENCE of 300 times NULL.
+fn nulls(alloc: Global) -> Result<Vec<u8>, Fail> {
+    let mut bytes = Vec::new(alloc);
+    bytes.extend_from_slice(b"\x30\x82\x02\x58")?;
+    for _ in 0..300 {
+        bytes.extend_from_slice(b"\x05\x00")?;
+    }
+    Ok(bytes)
+}
+
 /// The bytes spell a tree, and it is written as they are, behind what stood there.
 fn comes_back(rt: &impl Abort, alloc: Global, bytes: &[u8]) -> Result<(), Fail> {
     assert!(rt; bytes.len() < 0x8000_0000);
@@ -241,6 +264,35 @@ fn comes_back(rt: &impl Abort, alloc: Global, bytes: &[u8]) -> Result<(), Fail> 
     assert_eq!(rt; out.get(1..), Some(bytes));
     assert_eq!(rt; part_at(bytes, &[]), Some(bytes));
     Ok(())
+}
+
+/// An element of so many bytes is appended as a whole, and its head by itself.
+fn is_pushed(rt: &impl Abort, alloc: Global, element: &[u8], count: usize) -> Result<(), Fail> {
+    assert!(rt; count < 0x1_0001);
+    assert_eq!(rt; element_len(count), element.len());
+    let content = vec![in alloc; 0; count]?;
+    let mut out = Vec::new(alloc);
+    push_element(tag::OCTET_STRING, &content, &mut out)?;
+    push_head(tag::OCTET_STRING, count, &mut out)?;
+    assert_eq!(rt; out.get(..element.len()), Some(element));
+    let head = element.len().saturating_sub(count);
+    assert_eq!(rt; out.get(element.len()..), element.get(..head));
+    Ok(())
+}
+
+/// The number in a SEQUENCE of something, an INTEGER and a SET of no elements.
+fn number_in(alloc: Global, bytes: &[u8]) -> Option<u8> {
+    let Ok(tree) = read_tree(alloc, bytes) else {
+        return None;
+    };
+    let others = skip_first(constructed_parts(tag::SEQUENCE, &tree)?)?;
+    let (number, others) = take_primitive(tag::INTEGER, others)?;
+    let (elements, others) = take_constructed(tag::SET, others)?;
+    if are_none(elements) && are_none(others) {
+        number.first().copied()
+    } else {
+        None
+    }
 }
 
 #[test]
@@ -267,6 +319,17 @@ fn the_first_fault_is_told_with_its_place(rt: HostRuntime) -> Result<(), Fail> {
         told(alloc, &vec![in alloc; 0x80; 16384]?)?,
         Some(indefinite)
     );
+    for (kind, text) in TEXTS {
+        let fault = ReadFault::Der(DerFault {
+            kind: *kind,
+            place: 3,
+        });
+        assert_eq!(rt; fault.to_string(alloc)?.as_str(), *text);
+    }
+    assert_eq!(rt;
+        ReadFault::NoMemory.to_string(alloc)?.as_str(),
+        "out of memory"
+    );
     Ok(())
 }
 
@@ -286,8 +349,14 @@ fn trees_come_back(rt: HostRuntime) -> Result<(), Fail> {
         (b"\x83\x01\x00\x00", 65536),
     ];
     for (octets, count) in lengths {
-        comes_back(&rt, alloc, &zeros(alloc, octets, count)?)?;
+        let element = zeros(alloc, octets, count)?;
+        comes_back(&rt, alloc, &element)?;
+        is_pushed(&rt, alloc, &element, count)?;
     }
+    let parts = nulls(alloc)?;
+    comes_back(&rt, alloc, &parts)?;
+    assert_eq!(rt; part_at(&parts, &[299]), parts.get(602..604));
+    assert_eq!(rt; part_at(&parts, &[300]), None);
     Ok(())
 }
 
@@ -307,5 +376,15 @@ fn parts_are_counted_from_0(rt: HostRuntime) -> Result<(), Fail> {
         "a primitive element has no parts"
     );
     assert_eq!(rt; part_at(bytes, &[2, 0, 0]), None);
+    let forms: [(&[u8], Option<u8>); 5] = [
+        (b"\x30\x07\x05\x00\x02\x01\x09\x31\x00", Some(9)),
+        (b"\x31\x07\x05\x00\x02\x01\x09\x31\x00", None),
+        (b"\x30\x07\x05\x00\x04\x01\x09\x31\x00", None),
+        (b"\x30\x07\x05\x00\x02\x01\x09\x30\x00", None),
+        (b"\x30\x09\x05\x00\x02\x01\x09\x31\x00\x05\x00", None),
+    ];
+    for (bytes, number) in forms {
+        assert_eq!(rt; number_in(rt.alloc(), bytes), number, "{bytes:?}");
+    }
     Ok(())
 }

@@ -42,11 +42,11 @@ abbrev pub is_port : ℕ → Option ℕ → Bool
 is_port wanted None = false
 is_port wanted (Some port) = port == wanted
 
--- the Authorized Ports of http and https (BR, section 1.6.1, "Authorized Ports")
+-- the Authorized Ports of http and https (BR 2.1.5, section 1.6.1, "Authorized Ports")
 abbrev pub has_authorized_port : Parts → Bool
 has_authorized_port url = is_port 80 (port_of url) || is_port 443 (port_of url)
 
--- what a website may be fetched from, and redirect to (BR, sections 3.2.2.4.18 and 3.2.2.4.19)
+-- what a website may be fetched from, and redirect to (BR 2.1.5, sections 3.2.2.4.18 and 3.2.2.4.19)
 abbrev pub is_web_address : Parts → Bool
 is_web_address url = (is_http url || is_https url) && has_authorized_port url
 
@@ -65,7 +65,7 @@ is_host_of (Ip (V6 octets)) (Some (Domain domain)) = false
 is_host_of (Ip (V6 octets)) (Some (Ipv4 address)) = false
 is_host_of (Ip (V6 octets)) (Some (Ipv6 address)) = bytes_eq (ipv6_octets address) octets
 
--- the folder of agreed-upon changes (BR, section 3.2.2.4.18)
+-- the folder of agreed-upon changes (BR 2.1.5, section 3.2.2.4.18)
 abbrev pub validation_folder : List ℕ
 validation_folder = codes "/.well-known/pki-validation/"
 
@@ -73,7 +73,7 @@ validation_folder = codes "/.well-known/pki-validation/"
 abbrev pub acme_folder : List ℕ
 acme_folder = codes "/.well-known/acme-challenge/"
 
--- a file of the folder, over http or https (BR, section 3.2.2.4.18)
+-- a file of the folder, over http or https (BR 2.1.5, section 3.2.2.4.18)
 abbrev pub is_validation_file : Parts → Bool
 is_validation_file url =
     is_web_address url && starts_with nat_eq url.path validation_folder

@@ -10,7 +10,7 @@ use Rattle.gate_base.specs.declared.seen.Method.TheVariants.{DnsChange, WebChang
 use Rattle.names_core.specs.declared.rule.Rule.{Rule}
 use Rattle.names_core.specs.Suffix.{base_len, labels_eq}
 
--- The proved name is an Authorization Domain Name of the wanted one (BR, section 1.6.1): what is left of the wanted name,
+-- The proved name is an Authorization Domain Name of the wanted one (BR 2.1.5, section 1.6.1): what is left of the wanted name,
 -- without its `*.`, where labels are taken off from the left, down to its Base Domain Name at most. It has to have one.
 pub record IsAuthorizationName (proved wanted : Name) (rules : List Rule) : Type 0 where
   pub plain : proved.wild ≡ false
@@ -20,7 +20,7 @@ pub record IsAuthorizationName (proved wanted : Name) (rules : List Rule) : Type
   pub has_base : base_len rules wanted.labels ≡ Some base
   pub above_base : base ≤ length proved.labels
 
--- DNS changes prove a name for all names below it (BR, section 3.2.2.4.7)
+-- DNS changes prove a name for all names below it (BR 2.1.5, section 3.2.2.4.7)
 abbrev pub CoversBelow : Target → Target → List Rule → Type 0
 CoversBelow (Dns proved) (Dns wanted) rules = IsAuthorizationName proved wanted rules
 CoversBelow (Dns proved) (Ip wanted) rules = ⊥
@@ -31,7 +31,7 @@ abbrev pub IsPlain : Target → Type 0
 IsPlain (Dns name) = name.wild ≡ false
 IsPlain (Ip address) = Unit {0}
 
--- a website proves its own host alone, and no wildcard (BR, sections 3.2.2.4.18, 3.2.2.4.19 and 3.2.2.5)
+-- a website proves its own host alone, and no wildcard (BR 2.1.5, sections 3.2.2.4.18, 3.2.2.4.19 and 3.2.2.5)
 abbrev pub CoversItself : Target → Target → Type 0
 CoversItself proved wanted = (proved ≡ wanted) × IsPlain proved
 

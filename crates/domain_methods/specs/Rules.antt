@@ -1,4 +1,4 @@
--- The rules by which what a perspective saw confirms a challenge, after the Baseline Requirements ("BR"), sections
+-- The rules by which what a perspective saw confirms a challenge, after the Baseline Requirements ("BR", version 2.1.5), sections
 -- 3.2.2.4.7 (DNS change), 3.2.2.4.18 (agreed-upon change to a website) and 3.2.2.4.19 (the same by ACME). Those on
 -- websites serve for addresses too (section 3.2.2.5; RFC 8738).
 use Rattle.std.specs.Prelude.{◌≡◌, ℕ, ◌+◌, ◌<◌, Bool, true, false, IsTrue, IsFalse, not, ◌&&◌, ◌||◌, ◌==◌, nat_lt, nat_le, nat_eq, List, [], ◌-◌, ◌∷◌, ◌++◌, length, take, drop, bytes_eq, Option, Some, None}
@@ -31,22 +31,22 @@ abbrev pub is_of_dns : Seen → Bool
 is_of_dns (Dns seen) = true
 is_of_dns (Web seen) = false
 
--- 1: what was seen is not what the method looks at: records for a change in DNS, a fetched file for the two others
--- (BR, sections 3.2.2.4.7, 3.2.2.4.18 and 3.2.2.4.19)
+-- M01: what was seen is not what the method looks at: records for a change in DNS, a fetched file for the two others
+-- (BR 2.1.5, sections 3.2.2.4.7, 3.2.2.4.18 and 3.2.2.4.19)
 abbrev pub is_of_another_kind : Method → Seen → Bool
 is_of_another_kind DnsChange seen = not (is_of_dns seen)
 is_of_another_kind WebChange seen = is_of_dns seen
 is_of_another_kind AcmeHttp seen = is_of_dns seen
 
--- a random value serves for 30 days (BR, sections 3.2.2.4.7, 3.2.2.4.18 and 3.2.2.4.19)
+-- a random value serves for 30 days (BR 2.1.5, sections 3.2.2.4.7, 3.2.2.4.18 and 3.2.2.4.19)
 abbrev pub value_seconds : ℕ
 value_seconds = 2592000
 
--- 2: it was seen before the value was made, or more than 30 days after it
+-- M02: it was seen before the value was made, or more than 30 days after it
 abbrev pub is_out_of_time : ℕ → ℕ → Bool
 is_out_of_time made at = nat_lt at made || nat_lt (made + value_seconds) at
 
--- ---- changes in DNS (BR, section 3.2.2.4.7)
+-- ---- changes in DNS (BR 2.1.5, section 3.2.2.4.7)
 
 abbrev pub is_prefix_byte : ℕ → Bool
 is_prefix_byte byte = is_ascii_alphanumeric byte || byte == 45 || byte == 95
@@ -56,7 +56,7 @@ abbrev pub is_prefix : List ℕ → Bool
 is_prefix [] = true
 is_prefix (byte ∷ bytes) = byte == 95 && nat_le (length bytes) 62 && list_all is_prefix_byte bytes
 
--- 3: the records stand neither at the name itself nor at it behind such a label
+-- M03: the records are neither at the name itself nor at it behind such a label (BR 2.1.5, section 3.2.2.4.7)
 abbrev pub has_bad_prefix : DnsSeen → Bool
 has_bad_prefix seen = not (is_prefix seen.prefix)
 
@@ -64,12 +64,12 @@ has_bad_prefix seen = not (is_prefix seen.prefix)
 abbrev pub points_to : List ℕ → List ℕ → Bool
 points_to text cname = str_eq_ignore_ascii_case (before_first is_full_stop cname) text
 
--- 4: no TXT record is the random value, and no CNAME points to it
+-- M04: no TXT record is the random value, and no CNAME points to it (BR 2.1.5, section 3.2.2.4.7)
 abbrev pub lacks_record : Challenge → DnsSeen → Bool
 lacks_record c seen =
     not (list_any (bytes_eq (value_text c)) seen.txts || list_any (points_to (value_text c)) seen.cnames)
 
--- ---- files of websites (BR, sections 3.2.2.4.18 and 3.2.2.4.19)
+-- ---- files of websites (BR 2.1.5, sections 3.2.2.4.18 and 3.2.2.4.19)
 
 abbrev pub is_agreed_change : Method → Bool
 is_agreed_change DnsChange = false
@@ -81,7 +81,7 @@ is_acme DnsChange = false
 is_acme WebChange = false
 is_acme AcmeHttp = true
 
--- 5: what was fetched first isn't the file that the challenge demands
+-- M05: what was fetched first isn't the file that the challenge demands (BR 2.1.5, section 3.2.2.4.18; RFC 8555, section 8.3)
 abbrev pub begins_elsewhere : Challenge → WebSeen → Bool
 begins_elsewhere c seen = not (is_read_as (is_demanded c) (address_of seen.url))
 
@@ -90,14 +90,14 @@ abbrev pub has_text : List ℕ → List ℕ → Bool
 has_text text [] = length text == 0
 has_text text (byte ∷ bytes) = starts_with nat_eq (byte ∷ bytes) text || has_text text bytes
 
--- 6: the required content is shown by the request itself (BR, section 3.2.2.4.18)
+-- M06: the required content is shown by the request itself (BR 2.1.5, section 3.2.2.4.18)
 abbrev pub asks_with_value : Challenge → WebSeen → Bool
 asks_with_value c seen = is_agreed_change c.method && has_text (value_text c) seen.url
 
 abbrev pub is_redirect : ℕ → Bool
 is_redirect status = status == 301 || status == 302 || status == 307 || status == 308
 
--- 7: a redirect has another status than 301, 302, 307 and 308
+-- M07: a redirect has another status than 301, 302, 307 and 308 (BR 2.1.5, sections 3.2.2.4.18 and 3.2.2.4.19)
 abbrev pub has_bad_redirect : WebSeen → Bool
 has_bad_redirect seen = list_any (λ hop. not (is_redirect hop.status)) seen.hops
 
@@ -105,15 +105,15 @@ has_bad_redirect seen = list_any (λ hop. not (is_redirect hop.status)) seen.hop
 abbrev pub leads_on : Hop → Bool
 leads_on hop = is_read_as is_web_address (address_of hop.location)
 
--- 8: a redirect leads elsewhere
+-- M08: a redirect leads elsewhere (BR 2.1.5, sections 3.2.2.4.18 and 3.2.2.4.19)
 abbrev pub leaves_web : WebSeen → Bool
 leaves_web seen = list_any (λ hop. not (leads_on hop)) seen.hops
 
--- 9: more than ten redirects
+-- M09: more than ten redirects, which is this project's own limit
 abbrev pub has_many_hops : WebSeen → Bool
 has_many_hops seen = nat_lt 10 (length seen.hops)
 
--- 10: the final status isn't one of success (RFC 9110, section 15.3)
+-- M10: the final status isn't one of success (RFC 9110, section 15.3; BR 2.1.5, sections 3.2.2.4.18 and 3.2.2.4.19)
 abbrev pub has_bad_status : WebSeen → Bool
 has_bad_status seen = not (is_in_range 200 299 seen.status)
 
@@ -125,11 +125,11 @@ without_trail bytes = take (length bytes - suffix_len is_ascii_whitespace bytes)
 abbrev pub trimmed : List ℕ → List ℕ
 trimmed bytes = without_trail (drop (prefix_len is_ascii_whitespace bytes) bytes)
 
--- 11: the file isn't the random value, but for white space around it (BR, section 3.2.2.4.18)
+-- M11: the file isn't the random value, apart from white space around it (BR 2.1.5, section 3.2.2.4.18)
 abbrev pub lacks_value : Challenge → WebSeen → Bool
 lacks_value c seen = is_agreed_change c.method && not (bytes_eq (trimmed seen.body) (value_text c))
 
--- 12: the file isn't the key authorization, but for white space at its end (RFC 8555, section 8.3)
+-- M12: the file isn't the key authorization, apart from white space at its end (RFC 8555, section 8.3)
 abbrev pub lacks_authorization : Challenge → WebSeen → Bool
 lacks_authorization c seen = is_acme c.method && not (bytes_eq (without_trail seen.body) (key_authorization c))
 

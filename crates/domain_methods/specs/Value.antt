@@ -17,6 +17,6 @@ text_by AcmeHttp value = encode_of url_safe_no_pad value
 abbrev pub value_text : Challenge → List ℕ
 value_text c = text_by c.method c.value.0
 
--- the key authorization: the token, a full stop and the thumbprint of the account's key (RFC 8555, section 8.1)
+-- the key authorization (RFC 8555, section 8.1): the token, a full stop and the thumbprint of the account's key (RFC 7638)
 abbrev pub key_authorization : Challenge → List ℕ
 key_authorization c = value_text c ++ 46 ∷ c.thumb

@@ -1,4 +1,4 @@
--- The dated tables: what is asked from which moment on. The rows follow the Baseline Requirements (sections 4.2.1, 6.3.2 and
+-- The dated tables: what is asked from which moment on. The rows follow BR 2.1.5 (sections 4.2.1, 6.3.2 and
 -- 3.2.2.9); the dates and the numbers are this project's own.
 use Rattle.std.specs.Prelude.{ℕ, List, [], ◌∷◌, nat_le, nat_lt, if◌then◌else◌}
 

@@ -4,6 +4,7 @@
 mod memory;
 mod moment;
 mod name;
+mod observed;
 mod plain;
 mod profile;
 mod seen;

@@ -1,1 +1,2 @@
 mod GateCa
+mod RoundsLemmas

@@ -3,14 +3,14 @@ ghost use Rattle.std.specs.Prelude.{◌≡◌, ◌+◌, ◌≤◌, ◌++◌, len
 ghost use Rattle.std.specs.List.{AllByRecursion};
 ghost use Rattle.public_key.specs.Key.{IsKeyOf};
 ghost use Rattle.tbs_build.specs.Names.{IsShort};
-ghost use Rattle.tbs_build.specs.Profile.{IsSoundProfile};
+ghost use Rattle.cert_fields.specs.Profile.{IsSoundProfile};
 
 use crate::fault::Fault;
-use gate_base::{Address, Bytes, KeyKind, Moment, Profile, Sixteen, Target, Targets};
-use names_core::{read_target, target_text};
+use gate_base::{Bytes, KeyKind, Moment, Profile, Sixteen, Target, Targets};
+use names_core::read_target;
 use public_key::read_key_kind;
 use std::alloc::Global;
-use tbs_build::{Plan, build};
+use tbs_build::{Plan, build, is_short};
 
 /// 2026-09-21T14:13:20Z.
 pub const FIRST_SECOND: Moment = Moment(1_790_000_000);
@@ -20,35 +20,12 @@ const VALID_FOR: u64 = 47 * 86_400 - 1;
 
 const SERIAL: Sixteen = Sixteen([0x40, 0, 0, 0, 0, 0, 0, 0, 0, 0, 0, 0, 0, 0, 0, 0]);
 
-/// No name's text is longer (RFC 1034, section 3.1).
-const LONGEST_NAME: usize = 253;
-
 /// A point of P-256 whose coordinates are 64 bytes `11`.
 const P256_KEY: &[u8] =
     b"0Y0\x13\x06\x07*\x86H\xce=\x02\x01\x06\x08*\x86H\xce=\x03\x01\x07\x03B\0\x04\x11\x11\x11\x11\x11\
     \x11\x11\x11\x11\x11\x11\x11\x11\x11\x11\x11\x11\x11\x11\x11\x11\x11\x11\x11\x11\x11\x11\x11\x11\
     \x11\x11\x11\x11\x11\x11\x11\x11\x11\x11\x11\x11\x11\x11\x11\x11\x11\x11\x11\x11\x11\x11\x11\x11\
     \x11\x11\x11\x11\x11\x11\x11\x11\x11\x11\x11";
-
-fn has_room_for(text: &[u8]) -> bool
-    ensures { IsTrue result → length text.now ≤ 253 }
-{
-    text.len() <= LONGEST_NAME
-}
-
-fn is_short(alloc: Global, target: &Target) -> Result<bool, Fault>
-    ensures { IfOk result (λ short. IsTrue short → IsShort target.now) }
-{
-    match target {
-        Target::Dns(_) => {
-            let mut text = Vec::new(alloc);
-            target_text(target, &mut text)?;
-            Ok(has_room_for(&text))
-        }
-        Target::Ip(Address::V4(octets)) => Ok(has_room_for(octets)),
-        Target::Ip(Address::V6(octets)) => Ok(has_room_for(octets)),
-    }
-}
 
 /// The name with this number.
 fn numbered_name(alloc: Global, number: u8) -> Result<Target, Fault>

@@ -1,4 +1,6 @@
 //! Bytes that are digested: those of a tree, or of the body of a certificate.
+ghost use Rattle.std.specs.Prelude.{◌≡◌, slice_set};
+ghost use Rattle.gate_bench.specs.Rounds as rounds;
 
 use crate::bodies::body_with_names;
 use crate::fault::Fault;
@@ -7,13 +9,22 @@ use crate::trees::tree_bytes;
 use sha2::{Digest, Sha256};
 use std::alloc::Global;
 
+/// Puts the byte in place of the message's first one.
+fn put_first(message: &mut [u8], byte: u8)
+    ensures { message.new ≡ slice_set message.old 0 byte }
+{
+    if let Some(first) = message.first_mut() {
+        *first = byte;
+    }
+}
+
 /// Digests the message so many times, each time with the first byte of the digest before in front.
-fn digest_often(message: &mut [u8], times: u32) -> [u8; 32] {
+fn digest_often(message: &mut [u8], times: u32) -> [u8; 32]
+    ensures { result ≡ (rounds.digested_often times message.old).1 }
+{
     let mut digest = [0u8; 32];
     for _ in 0..times {
-        if let Some(first) = message.first_mut() {
-            *first = digest[0];
-        }
+        put_first(message, digest[0]);
         digest = Sha256::digest(&*message);
     }
     digest

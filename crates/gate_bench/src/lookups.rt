@@ -1,4 +1,6 @@
 //! Names that are looked up among public suffix rules.
+ghost use Rattle.std.specs.Prelude.{◌≡◌, ◌≤◌, length, Some, IfOk};
+ghost use Rattle.gate_bench.specs.Rounds as rounds;
 
 use crate::fault::Fault;
 use gate_base::Name;
@@ -18,7 +20,9 @@ fn rules_text(alloc: Global, rules: u16) -> Result<String, AllocError> {
 }
 
 /// Names spread over the rules, of which one in four is under no rule.
-fn names_among(alloc: Global, rules: u16) -> Result<Vec<Name>, Fault> {
+fn names_among(alloc: Global, rules: u16) -> Result<Vec<Name>, Fault>
+    ensures { IfOk result (λ names. length names.items ≡ 64) }
+{
     let mut names = Vec::new(alloc);
     for turn in 0..NAMES {
         let rule = u32::from(rules) * turn / NAMES;
@@ -29,16 +33,25 @@ fn names_among(alloc: Global, rules: u16) -> Result<Vec<Name>, Fault> {
     Ok(names)
 }
 
+/// One for a name that has a base, otherwise none.
+fn has_base(suffixes: &Suffixes, name: &Name) -> u32
+    ensures count { result ≡ rounds.has_base suffixes.now (Some name.now) }
+    ensures one { result ≤ 1 }
+{
+    match suffixes.base_len(name) {
+        Some(_) => 1,
+        None => 0,
+    }
+}
+
 /// Asks so many times for the base of a name, and counts the names that have one.
-fn ask_often(suffixes: &Suffixes, names: &[Name], times: u32) -> u64 {
-    let mut found = 0u64;
+fn ask_often(suffixes: &Suffixes, names: &[Name], times: u32) -> u32
+    requires { length names.now ≡ 64 }
+    ensures { result ≡ rounds.bases_found suffixes.now names.now times }
+{
+    let mut found = 0u32;
     for turn in 0..times {
-        let at = (turn % NAMES) as usize;
-        if let Some(name) = names.get(at) {
-            if suffixes.base_len(name).is_some() {
-                found = found.saturating_add(1);
-            }
-        }
+        found += has_base(suffixes, &names[(turn % NAMES) as usize]);
     }
     found
 }

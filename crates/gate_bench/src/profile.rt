@@ -1,6 +1,6 @@
 //! The profile of the example.
 ghost use Rattle.std.specs.Prelude.{◌≡◌, IfOk};
-ghost use Rattle.tbs_build.specs.Profile.{IsIssuerName, IsSoundProfile};
+ghost use Rattle.cert_fields.specs.Profile.{IsIssuerName, IsSoundProfile};
 
 use gate_base::{Bytes, NoMemory, Profile, SigAlg, Sixteen4};
 use std::alloc::Global;

@@ -1,4 +1,8 @@
 //! Trees that are read.
+ghost use Rattle.std.specs.Prelude.{◌≡◌, IfOk};
+ghost use Rattle.der_text.specs.Tree.{IsDer};
+ghost use Rattle.der_text.specs.View.{node, nodes};
+ghost use Rattle.gate_bench.specs.Rounds as rounds;
 
 use crate::fault::Fault;
 use der_text::{ReadFault, Tree, read_tree};
@@ -25,15 +29,27 @@ pub fn tree_bytes(alloc: Global, kilobytes: u8) -> Result<Vec<u8>, AllocError> {
     Ok(bytes)
 }
 
-fn part_count(tree: &Tree<'_>) -> u64 {
+#[tactic(auto, using(crate::proofs::RoundsLemmas::node_count_of_nodes))]
+fn count(parts: &[Tree<'_>]) -> u64
+    ensures { result ≡ rounds.node_count (nodes parts.now) }
+{
+    parts.len() as u64
+}
+
+/// How many parts a tree has.
+fn part_count(tree: &Tree<'_>) -> u64
+    ensures { result ≡ rounds.part_count (node tree.now) }
+{
     match tree {
         Tree::Prim { .. } => 0,
-        Tree::Cons { parts, .. } => parts.len() as u64,
+        Tree::Cons { parts, .. } => count(parts.as_slice()),
     }
 }
 
 /// Reads the bytes so many times, and counts the parts of each tree.
-fn read_often(alloc: Global, bytes: &[u8], times: u32) -> Result<u64, ReadFault> {
+fn read_often(alloc: Global, bytes: &[u8], times: u32) -> Result<u64, ReadFault>
+    ensures { IfOk result (λ parts. rounds.Did (IsDer bytes.now) rounds.part_count times parts) }
+{
     let mut parts = 0u64;
     for _ in 0..times {
         let tree = read_tree(alloc, bytes)?;

@@ -1,16 +1,21 @@
 -- What is at hand when the signer is called.
-use Rattle.std.proofs.Common.{◌≡◌, ◌⊎◌, ℕ, ◌+◌, ◌≤◌, List, [], ◌∷◌, ◌++◌, length, true, refl, sym, ap, subst, ◌∙◌, inl, inr, arith}
+use Rattle.std.proofs.Common.{◌≡◌, ◌⊎◌, ℕ, ◌+◌, ◌≤◌, List, [], ◌∷◌, ◌++◌, length, true, Option, Some, None, refl, sym, ap, subst, ◌∙◌, inl, inr, arith}
+use Rattle.plant.specs.Causes.{Rose}
 use Rattle.plant.specs.Plant.{PlantTold, LeavesSigner}
 use Rattle.gate_entries.specs.declared.entry.Entry.{Entry}
 use Rattle.gate_entries.specs.declared.reply.Reply.{Reply}
 use Rattle.gate_entries.specs.Spelling.{IsEntry}
 use Rattle.gate_machine.specs.History.{journal_size, record_size, IsSignature, Follows, Legal}
-use Rattle.gate_machine.specs.Sends.{is_send_for, order_in, signed_entry, certificate_bytes}
+use Rattle.gate_machine.specs.Sends.{is_send_for, order_in, body_in, signed_entry, certificate_bytes}
 use Rattle.gate_machine.specs.Answer.{IsReadyToSend}
 use Rattle.gate_entries.specs.declared.reply.Reply.TheVariants.{Issued, DiskFault}
-use Rattle.gate_machine.specs.Step.{Held, Holds, Waits, SignerTold, SignerFails, Signs, Sent, Issues, signer_of}
+use Rattle.gate_machine.specs.declared.answer.Answer.TheVariants.{Send}
+use Rattle.gate_machine.specs.Move.{Held, Holds, Waits, SignerCall, Sent, Issues}
+use Rattle.gate_machine.specs.Step.{SignerTold, GivesCall, signer_of}
+use Rattle.gate_engine.specs.Engine.{StandsForPlant, Leaves, CarriesOut}
 use Rattle.gate_engine.specs.declared.sending.Signing.{Signing}
-use Rattle.gate_engine.specs.Signing.{signed_as, IsSigning, MayBeSigned, KeepsAs, SignsAs}
+use Rattle.gate_engine.specs.Signing.{signed_as, IsSigning, MayBeSigned, KeepsAs, UnsignedAs, SignedAs, SignsAs}
+use Rattle.gate_engine.proofs.Steps.{signer_left}
 
 same_entry : (signing : Signing) (entry : Entry) (signature : List ℕ) → IsSigning signing entry → signed_as signing signature ≡ signed_entry entry signature
 same_entry signing entry signature is = rw (is.number, is.moment, is.caller, is.order) refl
@@ -30,7 +35,8 @@ module _ (size : (history : List Entry) (entry : Entry) → journal_size (histor
         room = omega (arith, size history entry, ready.room, ap length is.caller);
       })
 
--- what is signed as an entry sends it
+-- ---- what is signed as an entry sends it
+
 issues : (entry : Entry) (signing : Signing) (signature : List ℕ) (reply : Reply) → IsSigning signing entry
     → reply ≡ Issued signing.order signing.serial (certificate_bytes signing.body signature) → Issues entry signature reply
 issues entry signing signature reply is told = record {
@@ -51,21 +57,51 @@ keeps history entry signing signature reply new is kept = elim kept [
   | inr lost ↦ inr (lost.0, subst (λ (e : Entry). Waits (history ++ entry ∷ []) e new) (same_entry signing entry signature is) lost.1)
 ]
 
-pub signs_sent : (history : List Entry) (entry : Entry) (signing : Signing) (signer : SignerTold) (reply : Reply) (new : Held) (signer' : SignerTold)
-    → IsSigning signing entry → SignsAs signing (history ++ entry ∷ []) signer reply new signer' → Sent history entry signer reply new signer'
-signs_sent history entry signing signer reply new signer' is signs = elim signs [
+called_as : (signing : Signing) (entry : Entry) (call : Option SignerCall) (signature : Option (List ℕ)) → IsSigning signing entry
+    → call ≡ Some (record { body = signing.body; signature = signature }) → call ≡ Some (record { body = body_in entry.what; signature = signature })
+called_as signing entry call signature is called =
+    subst (λ (b : List ℕ). call ≡ Some (record { body = b; signature = signature })) is.body called
+
+signs_sent : (history : List Entry) (entry : Entry) (signing : Signing) (call : Option SignerCall) (reply : Reply) (new : Held) → IsSigning signing entry
+    → UnsignedAs signing (history ++ entry ∷ []) call reply new ⊎ SignedAs signing (history ++ entry ∷ []) call reply new → Sent history entry call reply new
+signs_sent history entry signing call reply new is signs = elim signs [
   | inl unsigned ↦ inr (inl (record {
-    fault = unsigned.0;
-    held = unsigned.1;
-    fails = subst (λ (b : List ℕ). SignerFails signer signer' b) is.body unsigned.2;
+    called = called_as signing entry call None is unsigned.called;
+    fault = unsigned.fault;
+    held = unsigned.held;
   }))
   | inr signed ↦ inr (inr (record {
     signature = signed.signature;
-    signs = subst (λ (b : List ℕ). Signs signer signer' b signed.signature) is.body signed.signs;
+    called = called_as signing entry call (Some signed.signature) is signed.called;
+    follows = subst (λ (e : Entry). Follows (history ++ entry ∷ []) e) (same_entry signing entry signed.signature is) signed.follows;
     commits = keeps history entry signing signed.signature reply new is signed.keeps;
   }))
 ]
 
--- a call of the disk leaves the signer as it was
-pub signer_left : (before now : PlantTold) → LeavesSigner before now → signer_of now ≡ signer_of before
-signer_left before now same = rw (same.sent, same.answers, same.signer_faults) refl
+-- the entry is durable, and its body was signed, or it wasn't
+pub carries_signed : (history now : List Entry) (entry : Entry) (signing : Signing) (told mid told' : PlantTold) (reply : Reply) (new : Held) → IsSigning signing entry
+    → now ≡ history ++ entry ∷ [] → LeavesSigner told mid → told.disk_faults ≤ mid.disk_faults → SignsAs signing now mid told' reply new → Leaves mid told' reply new
+    → CarriesOut (Send entry) history told told' reply new
+carries_signed history now entry signing told mid told' reply new is more same later signs leaves =
+    let signed : SignsAs signing (history ++ entry ∷ []) mid told' reply new = subst (λ (h : List Entry). SignsAs signing h mid told' reply new) more signs in
+    record {
+      call = signed.call;
+      gives = subst (λ (s : SignerTold). GivesCall s (signer_of told') signed.call) (signer_left told mid same) signed.gives;
+      does = inr (signs_sent history entry signing signed.call reply new is signed.signs);
+      leaves = record {
+        stands = leaves.stands;
+        later = omega (arith, later, leaves.later);
+        cause = λ is. let rose = leaves.cause is in omega (arith, later, rose);
+      };
+    }
+
+-- the disk failed before the signer was called
+pub carries_unsent : (history : List Entry) (entry : Entry) (told told' : PlantTold) (new : Held) → LeavesSigner told told' → Waits history entry new
+    → StandsForPlant new told' → told.disk_faults ≤ told'.disk_faults → Rose told.disk_faults told'.disk_faults
+    → CarriesOut (Send entry) history told told' DiskFault new
+carries_unsent history entry told told' new same waits stands later rose = record {
+  call = None;
+  gives = signer_left told told' same;
+  does = inr (inl (record { uncalled = refl; fault = refl; waits = waits }));
+  leaves = record { stands = stands; later = later; cause = λ is. rose };
+}

@@ -1,5 +1,6 @@
 -- What the parts of an answer make of a step.
-use Rattle.std.proofs.Common.{◌≡◌, ◌≢◌, ℕ, ◌⊎◌, inl, inr, List, Option, Some, None, true, false, refl, subst, sym, ap, ◌∙◌}
+use Rattle.std.proofs.Common.{◌≡◌, ◌≢◌, ℕ, ◌≤◌, inl, inr, List, [], ◌∷◌, ◌++◌, Option, Some, None, true, false, refl, subst, sym, ap, ◌∙◌, arith}
+use Rattle.plant.specs.Causes.{Rose}
 use Rattle.plant.specs.Plant.{PlantTold, LeavesSigner}
 use Rattle.plant.specs.Clock.{ClockTold, Reads}
 use Rattle.plant.specs.Entropy.{EntropyTold, Draws}
@@ -8,98 +9,210 @@ use Rattle.gate_entries.specs.declared.caller.Caller.{Caller}
 use Rattle.gate_entries.specs.declared.command.Command.{Command}
 use Rattle.gate_entries.specs.declared.entry.Entry.{Entry}
 use Rattle.gate_entries.specs.declared.reply.Reply.{Reply}
-use Rattle.gate_entries.specs.declared.reply.Reply.TheVariants.{RoleDenied, ClockFault, EntropyFault, JournalBad, NoMemory}
+use Rattle.gate_entries.specs.declared.reply.Reply.TheVariants.{RoleDenied, ClockFault, EntropyFault, DiskFault, SignerFault, NoMemory}
 use Rattle.gate_entries.specs.Command.{may_ask}
 use Rattle.gate_machine.specs.declared.answer.Answer.{Answer}
 use Rattle.gate_machine.specs.declared.answer.Answer.TheVariants.{Say, Write, Send, NeedDraw}
-use Rattle.gate_machine.specs.Answer.{Answers, MayBe}
-use Rattle.gate_machine.specs.Step.{Held, Holds, Outside, Does, Acts, Asks, Goes, Settles, EndsRemount, RemountFails, Settled, signer_of, is_before_reading}
-use Rattle.gate_engine.specs.Engine.{WantsRoom, devices_of, outside_of}
+use Rattle.gate_machine.specs.Answer.{Answers, IsReady, MayBe, reply_of}
+use Rattle.gate_machine.specs.Move.{Held, Holds, Waits, nothing, no_reading, Settles, EndsRemount, RemountFails}
+use Rattle.gate_machine.specs.Step.{SignerTold, Outside, Gives, Step, signer_of}
+use Rattle.gate_engine.specs.Engine.{StandsForPlant, Leaves, CarriesOut, ActsBy, AsksBy, GoesBy, outside_of, state_of}
+
+-- a call of the disk leaves the signer as it was
+pub signer_left : (told told' : PlantTold) → LeavesSigner told told' → signer_of told' ≡ signer_of told
+signer_left told told' same = rw (same.sent, same.answers, same.signer_faults) refl
+
+-- a call that leaves the plant alone, and tells no fault of the disk
+leaves_same : (told : PlantTold) (reply : Reply) (new : Held) → reply ≢ DiskFault → StandsForPlant new told → Leaves told told reply new
+leaves_same told reply new other stands = record { stands = stands; later = omega arith; cause = λ is. absurd (other is) }
+
+memory_other : NoMemory ≢ DiskFault
+memory_other is = cc is
+
+entropy_other : EntropyFault ≢ DiskFault
+entropy_other is = cc is
+
+clock_other : ClockFault ≢ DiskFault
+clock_other is = cc is
+
+pub signer_other : SignerFault ≢ DiskFault
+signer_other is = cc is
+
+role_other : RoleDenied ≢ DiskFault
+role_other is = cc is
+
+-- a reply is said
+pub carries_said : (said : Reply) (history : List Entry) (told : PlantTold) (new : Held) → said ≢ DiskFault → Holds new history → StandsForPlant new told
+    → CarriesOut (Say said) history told told said new
+carries_said said history told new other held stands =
+    record { call = None; gives = refl; does = inr (refl, held, refl); leaves = leaves_same told said new other stands }
+
+-- there was no memory
+pub carries_memory : (answer : Answer) (history : List Entry) (told : PlantTold) (new : Held) → Holds new history → StandsForPlant new told
+    → CarriesOut answer history told told NoMemory new
+carries_memory answer history told new held stands = record {
+  call = None;
+  gives = refl;
+  does = inl (record { told = refl; uncalled = refl; held = held });
+  leaves = leaves_same told NoMemory new memory_other stands;
+}
+
+-- an entry is committed, or the disk failed
+module _ (history : List Entry) (entry : Entry) (told told' : PlantTold) (new : Held) (same : LeavesSigner told told') (stands : StandsForPlant new told')
+    (later : told.disk_faults ≤ told'.disk_faults) where
+  pub carries_written : (reply : Reply) → reply ≡ reply_of entry → reply ≢ DiskFault → Holds new (history ++ entry ∷ [])
+      → CarriesOut (Write entry) history told told' reply new
+  carries_written reply is other held = record {
+    call = None;
+    gives = signer_left told told' same;
+    does = inr (inl (is, held), refl);
+    leaves = record { stands = stands; later = later; cause = λ fault. absurd (other fault) };
+  }
+
+  pub carries_lost : Waits history entry new → Rose told.disk_faults told'.disk_faults → CarriesOut (Write entry) history told told' DiskFault new
+  carries_lost waits rose = record {
+    call = None;
+    gives = signer_left told told' same;
+    does = inr (inr (refl, waits), refl);
+    leaves = record { stands = stands; later = later; cause = λ is. rose };
+  }
+
+undrawn_fine : (draw : Option (Option Sixteen)) → draw ≡ None → draw ≢ Some None
+undrawn_fine draw is failed = let wrong = sym is ∙ failed in cc wrong
+
+drawn_fine : (draw : Option (Option Sixteen)) (bytes : Sixteen) → draw ≡ Some (Some bytes) → draw ≢ Some None
+drawn_fine draw bytes is failed = let wrong = sym is ∙ failed in cc wrong
 
 module _ (history : List Entry) (caller : Caller) (command : Command) (reading : ℕ) (told told' : PlantTold) (entropy entropy' : EntropyTold) (reply : Reply) (new : Held) where
   -- an answer was carried out without drawn bytes
-  pub acts_undrawn : (answer : Answer) → Answers history caller command reading None answer
-      → WantsRoom history (signer_of told) reply new (signer_of told') ⊎ Does answer history (signer_of told) reply new (signer_of told')
-      → Acts history caller command reading (devices_of told entropy) reply new (devices_of told' entropy)
-  acts_undrawn answer answers done = elim done [
-    | inl memory ↦ inl (record { told = memory.told; held = memory.held; drawn = inl refl; signer = memory.signer_same })
-    | inr does ↦ inr (inr (record { drawn = None; draws = refl; answer = answer; answers = answers; does = does }))
-  ]
+  pub acts_undrawn : (answer : Answer) → Answers history caller command reading None answer → IsReady history answer
+      → CarriesOut answer history told told' reply new → ActsBy history caller command reading told told' entropy entropy reply new
+  acts_undrawn answer answers ready done = record {
+    draw = None;
+    call = done.call;
+    draws = refl;
+    gives = done.gives;
+    acts = elim done.does [
+      | inl memory ↦ inl (record { told = memory.told; drawn = undrawn_fine None refl; uncalled = memory.uncalled; held = memory.held })
+      | inr does ↦ inr (inr (record { drawn = None; draws = refl; needs = tt; answer = answer; answers = answers; ready = ready; does = does }))
+    ];
+    leaves = done.leaves;
+  }
 
   -- an answer was carried out with drawn bytes
   pub acts_drawn : (draw : Sixteen) (answer : Answer) → Answers history caller command reading None NeedDraw → Draws entropy entropy' (Some draw)
-      → Answers history caller command reading (Some draw) answer
-      → WantsRoom history (signer_of told) reply new (signer_of told') ⊎ Does answer history (signer_of told) reply new (signer_of told')
-      → Acts history caller command reading (devices_of told entropy) reply new (devices_of told' entropy')
-  acts_drawn draw answer needs draws answers done = elim done [
-    | inl memory ↦ inl (record { told = memory.told; held = memory.held; drawn = inr (draw, draws); signer = memory.signer_same })
-    | inr does ↦ inr (inr (record { drawn = Some draw; draws = (needs, draws); answer = answer; answers = answers; does = does }))
-  ]
+      → Answers history caller command reading (Some draw) answer → IsReady history answer
+      → CarriesOut answer history told told' reply new → ActsBy history caller command reading told told' entropy entropy' reply new
+  acts_drawn draw answer needs draws answers ready done = record {
+    draw = Some (Some draw);
+    call = done.call;
+    draws = draws;
+    gives = done.gives;
+    acts = elim done.does [
+      | inl memory ↦ inl (record { told = memory.told; drawn = drawn_fine (Some (Some draw)) draw refl; uncalled = memory.uncalled; held = memory.held })
+      | inr does ↦ inr (inr (record { drawn = Some draw; draws = refl; needs = needs; answer = answer; answers = answers; ready = ready; does = does }))
+    ];
+    leaves = done.leaves;
+  }
 
-pub acts_memory : (history : List Entry) (caller : Caller) (command : Command) (reading : ℕ) (told : PlantTold) (entropy : EntropyTold) (new : Held) → Holds new history
-    → Acts history caller command reading (devices_of told entropy) NoMemory new (devices_of told entropy)
-acts_memory history caller command reading told entropy new held = inl (record { told = refl; held = held; drawn = inl refl; signer = refl })
+module _ (history : List Entry) (caller : Caller) (command : Command) (reading : ℕ) (told : PlantTold) (entropy entropy' : EntropyTold) (new : Held) where
+  pub acts_memory : Holds new history → StandsForPlant new told → ActsBy history caller command reading told told entropy entropy NoMemory new
+  acts_memory held stands = record {
+    draw = None;
+    call = None;
+    draws = refl;
+    gives = refl;
+    acts = inl (record { told = refl; drawn = undrawn_fine None refl; uncalled = refl; held = held });
+    leaves = leaves_same told NoMemory new memory_other stands;
+  }
 
-pub acts_drawn_memory : (history : List Entry) (caller : Caller) (command : Command) (reading : ℕ) (told : PlantTold) (entropy entropy' : EntropyTold) (draw : Sixteen) (new : Held)
-    → Draws entropy entropy' (Some draw) → Holds new history → Acts history caller command reading (devices_of told entropy) NoMemory new (devices_of told entropy')
-acts_drawn_memory history caller command reading told entropy entropy' draw new draws held =
-    inl (record { told = refl; held = held; drawn = inr (draw, draws); signer = refl })
+  pub acts_drawn_memory : (draw : Sixteen) → Draws entropy entropy' (Some draw) → Holds new history → StandsForPlant new told
+      → ActsBy history caller command reading told told entropy entropy' NoMemory new
+  acts_drawn_memory draw draws held stands = record {
+    draw = Some (Some draw);
+    call = None;
+    draws = draws;
+    gives = refl;
+    acts = inl (record { told = refl; drawn = drawn_fine (Some (Some draw)) draw refl; uncalled = refl; held = held });
+    leaves = leaves_same told NoMemory new memory_other stands;
+  }
 
-pub acts_no_draw : (history : List Entry) (caller : Caller) (command : Command) (reading : ℕ) (told : PlantTold) (entropy entropy' : EntropyTold) (new : Held)
-    → Answers history caller command reading None NeedDraw → Draws entropy entropy' None → Holds new history
-    → Acts history caller command reading (devices_of told entropy) EntropyFault new (devices_of told entropy')
-acts_no_draw history caller command reading told entropy entropy' new needs draws held =
-    inr (inl (record { needs = needs; fault = refl; draws = draws; held = held; signer = refl }))
+  pub acts_no_draw : Answers history caller command reading None NeedDraw → Draws entropy entropy' None → Holds new history → StandsForPlant new told
+      → ActsBy history caller command reading told told entropy entropy' EntropyFault new
+  acts_no_draw needs draws held stands = record {
+    draw = Some None;
+    call = None;
+    draws = draws;
+    gives = refl;
+    acts = inr (inl (record { needs = needs; failed = refl; fault = refl; uncalled = refl; held = held }));
+    leaves = leaves_same told EntropyFault new entropy_other stands;
+  }
 
 pub asks_read : (history : List Entry) (told told' : PlantTold) (clock clock' : ClockTold) (entropy entropy' : EntropyTold) (caller : Caller) (command : Command) (reading : ℕ)
-    (reply : Reply) (new : Held) → Reads clock clock' (Some reading) → Acts history caller command reading (devices_of told entropy) reply new (devices_of told' entropy')
-    → Asks history (outside_of told clock entropy) caller command reply new (outside_of told' clock' entropy')
-asks_read history told told' clock clock' entropy entropy' caller command reading reply new reads acts =
-    inr (record { reading = reading; reads = reads; acts = acts })
+    (reply : Reply) (new : Held) → Reads clock clock' (Some reading) → ActsBy history caller command reading told told' entropy entropy' reply new
+    → AsksBy history caller command told told' (outside_of told clock entropy) (outside_of told' clock' entropy') reply new
+asks_read history told told' clock clock' entropy entropy' caller command reading reply new reads acts = record {
+  given = record { reading = Some (Some reading); draw = acts.draw; call = acts.call };
+  gives = record { reading = reads; draw = acts.draws; call = acts.gives };
+  asks = inr (record { reading = reading; reads = refl; acts = acts.acts });
+  leaves = acts.leaves;
+}
 
 pub asks_unread : (history : List Entry) (told : PlantTold) (clock clock' : ClockTold) (entropy : EntropyTold) (caller : Caller) (command : Command) (new : Held)
-    → Reads clock clock' None → Holds new history → Asks history (outside_of told clock entropy) caller command ClockFault new (outside_of told clock' entropy)
-asks_unread history told clock clock' entropy caller command new reads held = inl (record { fault = refl; reads = reads; held = held; devices = refl })
+    → Reads clock clock' None → Holds new history → StandsForPlant new told
+    → AsksBy history caller command told told (outside_of told clock entropy) (outside_of told clock' entropy) ClockFault new
+asks_unread history told clock clock' entropy caller command new reads held stands = record {
+  given = no_reading;
+  gives = record { reading = reads; draw = refl; call = refl };
+  asks = inl (record { gave = refl; fault = refl; held = held });
+  leaves = leaves_same told ClockFault new clock_other stands;
+}
 
-pub goes_denied : (history : List Entry) (outside : Outside) (caller : Caller) (command : Command) (new : Held)
-    → may_ask caller.role command ≡ false → Holds new history → Goes history outside caller command RoleDenied new outside
-goes_denied history outside caller command new denied held = inl (record { denied = denied; told = refl; held = held; same = refl })
+pub goes_denied : (history : List Entry) (told : PlantTold) (outside : Outside) (caller : Caller) (command : Command) (new : Held)
+    → may_ask caller.role command ≡ false → Holds new history → StandsForPlant new told → GoesBy history caller command told told outside outside RoleDenied new
+goes_denied history told outside caller command new denied held stands = record {
+  given = nothing;
+  gives = record { reading = refl; draw = refl; call = refl };
+  goes = inl (record { denied = denied; gave = refl; told = refl; held = held });
+  leaves = leaves_same told RoleDenied new role_other stands;
+}
 
-pub goes_allowed : (history : List Entry) (old : Outside) (caller : Caller) (command : Command) (reply : Reply) (new : Held) (now : Outside)
-    → may_ask caller.role command ≡ true → Asks history old caller command reply new now → Goes history old caller command reply new now
-goes_allowed history old caller command reply new now may asks = inr (may, asks)
+pub goes_allowed : (history : List Entry) (told told' : PlantTold) (old now : Outside) (caller : Caller) (command : Command) (reply : Reply) (new : Held)
+    → may_ask caller.role command ≡ true → AsksBy history caller command told told' old now reply new → GoesBy history caller command told told' old now reply new
+goes_allowed history told told' old now caller command reply new may asks =
+    record { given = asks.given; gives = asks.gives; goes = inr (may, asks.asks); leaves = asks.leaves }
 
--- a reply that follows a reading tells no other journal
-pub not_foreign : (reply : Reply) (at : ℕ) → is_before_reading reply ≡ false → reply ≢ JournalBad at
-not_foreign reply at is foreign = let wrong = sym is ∙ ap is_before_reading foreign in cc wrong
+leaves_outside : (told told' : PlantTold) (clock : ClockTold) (entropy : EntropyTold) → LeavesSigner told told' → outside_of told' clock entropy ≡ outside_of told clock entropy
+leaves_outside told told' clock entropy same = ap (λ (s : SignerTold). record { clock = clock; entropy = entropy; signer = s }) (signer_left told told' same)
 
-remount_of : (old : Held) (loose : Option Entry) → old.loose ≡ loose → old.loose ≢ None → (before now : Outside) → now ≡ before → (reply : Reply) (new : Held)
-    → EndsRemount reply → new ≡ old → RemountFails old before reply new now
-remount_of old None is some before now same reply new ends held = absurd (some is)
-remount_of old (Some entry) is some before now same reply new ends held = record { entry = entry; was_loose = is; ends = ends; held = held; same = same }
+remount_of : (old : Held) (loose : Option Entry) → old.loose ≡ loose → old.loose ≢ None → (reply : Reply) (new : Held) → EndsRemount reply → new ≡ old
+    → RemountFails old nothing reply new
+remount_of old None is some reply new ends held = absurd (some is)
+remount_of old (Some entry) is some reply new ends held = record { entry = entry; was_loose = is; gave = refl; ends = ends; held = held }
 
--- a disk's call leaves the signer as it was
-leaves : (told told' : PlantTold) (clock : ClockTold) (entropy : EntropyTold) → LeavesSigner told told' → outside_of told' clock entropy ≡ outside_of told clock entropy
-leaves told told' clock entropy same = rw (same.sent, same.answers, same.signer_faults) refl
+pub step_nowhere : (old : Held) (told told' : PlantTold) (clock : ClockTold) (entropy : EntropyTold) (caller : Caller) (command : Command) (reply : Reply) (new : Held)
+    → LeavesSigner told told' → old.loose ≢ None → EndsRemount reply → new ≡ old → told.disk_faults ≤ told'.disk_faults
+    → (reply ≡ DiskFault → Rose told.disk_faults told'.disk_faults)
+    → Step (state_of old told clock entropy) caller command reply (state_of new told' clock entropy)
+step_nowhere old told told' clock entropy caller command reply new same some ends held later cause = record {
+  given = nothing;
+  moves = inl (remount_of old old.loose refl some reply new ends held);
+  gives = record { reading = refl; draw = refl; call = signer_left told told' same };
+  later = later;
+  cause = cause;
+}
 
-pub goes_nowhere : (old : Held) (told told' : PlantTold) (clock : ClockTold) (entropy : EntropyTold) (caller : Caller) (command : Command) (reply : Reply) (new : Held)
-    → LeavesSigner told told' → old.loose ≢ None → EndsRemount reply → new ≡ old
-    → RemountFails old (outside_of told clock entropy) reply new (outside_of told' clock entropy)
-    ⊎ Settled old (outside_of told clock entropy) caller command reply new (outside_of told' clock entropy)
-goes_nowhere old told told' clock entropy caller command reply new same some ends held =
-    inl (remount_of old old.loose refl some (outside_of told clock entropy) (outside_of told' clock entropy) (leaves told told' clock entropy same) reply new ends held)
-
-pub goes_settled : (old mid : Held) (told told' told'' : PlantTold) (clock clock' : ClockTold) (entropy entropy' : EntropyTold) (caller : Caller) (command : Command)
-    (reply : Reply) (new : Held) → Settles old mid.history → LeavesSigner told told'
-    → Goes mid.history (outside_of told' clock entropy) caller command reply new (outside_of told'' clock' entropy')
-    → RemountFails old (outside_of told clock entropy) reply new (outside_of told'' clock' entropy')
-    ⊎ Settled old (outside_of told clock entropy) caller command reply new (outside_of told'' clock' entropy')
-goes_settled old mid told told' told'' clock clock' entropy entropy' caller command reply new settles same goes =
-    inr (record {
-      history = mid.history;
-      settles = settles;
-      goes = subst (λ (o : Outside). Goes mid.history o caller command reply new (outside_of told'' clock' entropy')) (leaves told told' clock entropy same) goes;
-    })
+pub step_settled : (old mid : Held) (told told' told'' : PlantTold) (clock clock' : ClockTold) (entropy entropy' : EntropyTold) (caller : Caller) (command : Command)
+    (reply : Reply) (new : Held) → Settles old mid.history → LeavesSigner told told' → told.disk_faults ≤ told'.disk_faults
+    → GoesBy mid.history caller command told' told'' (outside_of told' clock entropy) (outside_of told'' clock' entropy') reply new
+    → Step (state_of old told clock entropy) caller command reply (state_of new told'' clock' entropy')
+step_settled old mid told told' told'' clock clock' entropy entropy' caller command reply new settles same later goes = record {
+  given = goes.given;
+  moves = inr (record { history = mid.history; settles = settles; goes = goes.goes });
+  gives = subst (λ (o : Outside). Gives o goes.given (outside_of told'' clock' entropy')) (leaves_outside told told' clock entropy same) goes.gives;
+  later = omega (arith, later, goes.leaves.later);
+  cause = λ is. let rose = goes.leaves.cause is in omega (arith, later, rose);
+}
 
 -- an answer that needs no bytes, and one that was given some, may be any
 pub may_none : (answer : Answer) → answer ≢ NeedDraw → MayBe None answer → (draw : Sixteen) → MayBe (Some draw) answer

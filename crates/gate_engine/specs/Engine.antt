@@ -13,7 +13,13 @@ use Rattle.gate_entries.specs.declared.entry.Entry.{Entry}
 use Rattle.gate_entries.specs.Spelling.{entry_bytes}
 use Rattle.gate_entries.specs.Command.{settings_entry}
 use Rattle.gate_machine.specs.History.{journal_size, Follows, EachFollows, Legal}
-use Rattle.gate_machine.specs.Step.{Held, Holds, SignerTold, Devices, Outside, State, signer_of}
+use Rattle.gate_base.specs.declared.sixteen.Sixteen.{Sixteen}
+use Rattle.plant.specs.Causes.{Rose}
+use Rattle.gate_entries.specs.declared.caller.Caller.{Caller}
+use Rattle.gate_entries.specs.declared.command.Command.{Command}
+use Rattle.gate_machine.specs.declared.answer.Answer.{Answer}
+use Rattle.gate_machine.specs.Move.{Held, Holds, SignerCall, Given, Does, Acts, Asks, Goes}
+use Rattle.gate_machine.specs.Step.{GivesCall, GivesDraw, Gives, Outside, State, signer_of}
 use Rattle.gate_entries.specs.declared.reply.Reply.{Reply}
 use Rattle.gate_entries.specs.declared.reply.Reply.TheVariants as replies
 
@@ -39,20 +45,57 @@ held_as history loose = record { history = history; loose = loose }
 abbrev pub StandsForPlant : Held → PlantTold → Type 0
 StandsForPlant held told = held.loose ≡ None → StandsFor (payloads_of held.history) told.bytes
 
-abbrev pub devices_of : PlantTold → EntropyTold → Devices
-devices_of told entropy = record { entropy = entropy; signer = signer_of told }
-
 abbrev pub outside_of : PlantTold → ClockTold → EntropyTold → Outside
-outside_of told clock entropy = record { clock = clock; devices = devices_of told entropy }
+outside_of told clock entropy = record { clock = clock; entropy = entropy; signer = signer_of told }
 
 abbrev pub state_of : Held → PlantTold → ClockTold → EntropyTold → State
 state_of held told clock entropy = record { held = held; disk_faults = told.disk_faults; outside = outside_of told clock entropy }
 
--- memory was wanted before anything was written or sent
-pub record WantsRoom (history : List Entry) (signer : SignerTold) (reply : Reply) (new : Held) (signer' : SignerTold) : Type 0 where
+-- ---- what a call keeps of plant and history
+
+-- the disk stands for the history; its count of faults doesn't fall, and rose where the reply is a fault of the disk
+pub record Leaves (told told' : PlantTold) (reply : Reply) (new : Held) : Type 0 where
+  pub stands : StandsForPlant new told'
+  pub later : told.disk_faults ≤ told'.disk_faults
+  pub cause : reply ≡ replies.DiskFault → Rose told.disk_faults told'.disk_faults
+
+-- there was no memory before anything was written or sent
+pub record WantsRoom (history : List Entry) (call : Option SignerCall) (reply : Reply) (new : Held) : Type 0 where
   pub told : reply ≡ replies.NoMemory
+  pub uncalled : call ≡ None
   pub held : Holds new history
-  pub signer_same : signer' ≡ signer
+
+-- an answer is carried out, by what the signer gave
+pub record CarriesOut (answer : Answer) (history : List Entry) (told told' : PlantTold) (reply : Reply) (new : Held) : Type 0 where
+  pub call : Option SignerCall
+  pub gives : GivesCall (signer_of told) (signer_of told') call
+  pub does : WantsRoom history call reply new ⊎ Does answer history call reply new
+  pub leaves : Leaves told told' reply new
+
+-- a command is answered over a reading, by what the random draws and the signer gave
+pub record ActsBy (history : List Entry) (caller : Caller) (command : Command) (reading : ℕ) (told told' : PlantTold) (entropy entropy' : EntropyTold) (reply : Reply) (new : Held) : Type 0 where
+  pub draw : Option (Option Sixteen)
+  pub call : Option SignerCall
+  pub draws : GivesDraw entropy entropy' draw
+  pub gives : GivesCall (signer_of told) (signer_of told') call
+  pub acts : Acts history caller command reading draw call reply new
+  pub leaves : Leaves told told' reply new
+
+-- an allowed command is answered, by what the outside gave
+pub record AsksBy (history : List Entry) (caller : Caller) (command : Command) (told told' : PlantTold) (old now : Outside) (reply : Reply) (new : Held) : Type 0 where
+  pub given : Given
+  pub gives : Gives old given now
+  pub asks : Asks history caller command given reply new
+  pub leaves : Leaves told told' reply new
+
+-- a command is answered with nothing loose, by what the outside gave
+pub record GoesBy (history : List Entry) (caller : Caller) (command : Command) (told told' : PlantTold) (old now : Outside) (reply : Reply) (new : Held) : Type 0 where
+  pub given : Given
+  pub gives : Gives old given now
+  pub goes : Goes history caller command given reply new
+  pub leaves : Leaves told told' reply new
+
+-- ---- what a start tells
 
 -- the payloads are a history up to this place, and the next one is no entry that may come behind it
 pub record StraysAt (payloads : List (List ℕ)) (at : ℕ) : Type 0 where

@@ -1,5 +1,5 @@
 -- What is at hand when the signer is called.
-use Rattle.std.specs.Prelude.{◌≡◌, ℕ, ◌+◌, ◌<◌, ◌≤◌, ◌⊎◌, List, [], ◌∷◌, ◌++◌, length, vec_capacity}
+use Rattle.std.specs.Prelude.{◌≡◌, ℕ, ◌+◌, ◌<◌, ◌≤◌, ◌⊎◌, List, [], ◌∷◌, ◌++◌, length, Option, Some, None, vec_capacity}
 use Rattle.gate_entries.specs.declared.entry.Entry.{Entry}
 use Rattle.gate_entries.specs.declared.entry.What.TheVariants as whats
 use Rattle.gate_entries.specs.declared.reply.Reply.{Reply}
@@ -8,7 +8,9 @@ use Rattle.gate_entries.specs.Command.{entry_with}
 use Rattle.gate_entries.specs.Spelling.{IsEntry}
 use Rattle.gate_machine.specs.History.{IsSignature, journal_size, Follows}
 use Rattle.gate_machine.specs.Sends.{order_in, body_in, serial_in, certificate_bytes}
-use Rattle.gate_machine.specs.Step.{Held, Holds, Waits, SignerTold, SignerFails, Signs}
+use Rattle.plant.specs.Plant.{PlantTold}
+use Rattle.gate_machine.specs.Move.{Held, Holds, Waits, SignerCall}
+use Rattle.gate_machine.specs.Step.{GivesCall, signer_of}
 use Rattle.gate_engine.specs.declared.sending.Signing.{Signing}
 
 -- the entry of a signature
@@ -41,18 +43,26 @@ pub record MayBeSigned (history : List Entry) (signing : Signing) : Type 0 where
   pub caller : length signing.caller ≤ 64
   pub room : journal_size history + (1057 + length signing.caller) ≤ 67108864
 
--- the signature's entry is durable and the certificate told, or the disk failed
+-- the signature's entry is durable and the certificate returned, or the disk failed
 abbrev pub KeepsAs : Signing → List Entry → List ℕ → Reply → Held → Type 0
 KeepsAs signing history signature reply new =
     ((reply ≡ replies.Issued signing.order signing.serial (certificate_bytes signing.body signature)) × Holds new (history ++ signed_as signing signature ∷ []))
     ⊎ ((reply ≡ replies.DiskFault) × Waits history (signed_as signing signature) new)
 
-pub record SignedAs (signing : Signing) (history : List Entry) (signer : SignerTold) (reply : Reply) (new : Held) (signer' : SignerTold) : Type 0 where
+-- the signer gave no signature
+pub record UnsignedAs (signing : Signing) (history : List Entry) (call : Option SignerCall) (reply : Reply) (new : Held) : Type 0 where
+  pub called : call ≡ Some (record { body = signing.body; signature = None })
+  pub fault : reply ≡ replies.SignerFault
+  pub held : Holds new history
+
+pub record SignedAs (signing : Signing) (history : List Entry) (call : Option SignerCall) (reply : Reply) (new : Held) : Type 0 where
   pub signature : List ℕ
-  pub signs : Signs signer signer' signing.body signature
+  pub called : call ≡ Some (record { body = signing.body; signature = Some signature })
+  pub follows : Follows history (signed_as signing signature)
   pub keeps : KeepsAs signing history signature reply new
 
--- the signer gave no signature, or it did
-abbrev pub SignsAs : Signing → List Entry → SignerTold → Reply → Held → SignerTold → Type 0
-SignsAs signing history signer reply new signer' =
-    ((reply ≡ replies.SignerFault) × Holds new history × SignerFails signer signer' signing.body) ⊎ SignedAs signing history signer reply new signer'
+-- the signer was called, and gave a signature or none
+pub record SignsAs (signing : Signing) (history : List Entry) (told told' : PlantTold) (reply : Reply) (new : Held) : Type 0 where
+  pub call : Option SignerCall
+  pub gives : GivesCall (signer_of told) (signer_of told') call
+  pub signs : UnsignedAs signing history call reply new ⊎ SignedAs signing history call reply new

@@ -4,12 +4,14 @@ ghost use Rattle.std.specs.Option.{ForSome};
 ghost use Rattle.plant.specs.Causes.{Rose};
 ghost use Rattle.plant.specs.Plant.{LeavesSigner};
 ghost use Rattle.gate_entries.specs.Command.{IsCommand, IsCaller};
-ghost use Rattle.gate_machine.specs.History.{Follows};
+ghost use Rattle.gate_machine.specs.History.{Follows, Legal};
 ghost use Rattle.gate_base.specs.declared.sixteen.Sixteen.{Sixteen as SixteenValue};
 ghost use Rattle.gate_machine.specs.Answer.{Answers, IsReady, MayBe};
-ghost use Rattle.gate_machine.specs.Step.{Settles, EndsRemount, Does, Acts, Asks, Goes, Step, IsRecorded, signer_of};
+ghost use Rattle.gate_machine.specs.Move.{Settles, EndsRemount};
+ghost use Rattle.gate_machine.specs.Step.{Step, IsRecorded, signer_of};
 ghost use Rattle.gate_machine.specs.Sends.{HasOneBodyEach};
-ghost use Rattle.gate_engine.specs.Engine.{StandsForPlant, WantsRoom, IsForeign, IsOther, devices_of, outside_of, state_of};
+ghost use Rattle.gate_machine.specs.Serials.{HasOneOrderEach};
+ghost use Rattle.gate_engine.specs.Engine.{StandsForPlant, CarriesOut, ActsBy, AsksBy, GoesBy, IsForeign, IsOther, outside_of, state_of};
 
 use crate::engine::Engine;
 use crate::fault::StartFault;
@@ -17,8 +19,8 @@ use crate::starting::open;
 use gate_base::{NoMemory, Plain, Sixteen, are_same};
 use gate_entries::{Caller, Command, Entry, Reply};
 use gate_machine::{
-    Answer, an_order_has_one_body, answer_command, what_follows_a_reading,
-    what_was_sent_is_recorded,
+    Answer, a_serial_number_has_one_order, an_order_has_one_body, answer_command,
+    what_a_move_keeps, what_steps_keep,
 };
 use plant::{Clock, Entropy, Plant};
 
@@ -45,24 +47,29 @@ impl Engine {
         ensures stands { StandsForPlant self.new (P.told plant.new) }
         // Each body that the signer was sent has an entry of its own, in order, where it had before.
         ensures recorded { IsRecorded (signer_of (P.told plant.old)) self.old.history → IsRecorded (signer_of (P.told plant.new)) self.new.history }
+        ensures legal { Legal self.new.history }
         // All bodies that were sent for an order are the same.
         ensures one_body { HasOneBodyEach self.new.history }
     {
-        what_was_sent_is_recorded();
+        what_steps_keep();
         let reply = self.ask_once(plant, clock, entropy, caller, command);
-        self.has_one_body_each();
+        self.keeps_a_legal_history();
         reply
     }
 
-    /// A law of every engine: all bodies that were sent for an order are the same. It does nothing.
-    pub fn has_one_body_each(&self)
-        ensures { HasOneBodyEach self.now.history }
+    /// A law of every engine: its history is legal, so all bodies that were sent for an order are the same, and no serial number was
+    /// sent for two orders. It does nothing.
+    pub fn keeps_a_legal_history(&self)
+        ensures legal { Legal self.now.history }
+        ensures one_body { HasOneBodyEach self.now.history }
+        ensures one_order { HasOneOrderEach self.now.history }
     {
         let _ = &self.history;
         an_order_has_one_body();
+        a_serial_number_has_one_order();
     }
 
-    #[tactic(auto, using(crate::proofs::Steps::goes_settled, crate::proofs::Steps::goes_nowhere))]
+    #[tactic(auto, using(crate::proofs::Steps::step_settled, crate::proofs::Steps::step_nowhere))]
     fn ask_once<P: Plant, C: Clock, E: Entropy>(
         &mut self,
         plant: &mut P,
@@ -79,6 +86,7 @@ impl Engine {
         ensures foreign { (at : ℕ) → result ≡ Reply.JournalBad at → ForSome (P.told plant.old).bytes (IsForeign self.old at) }
         ensures stands { StandsForPlant self.new (P.told plant.new) }
     {
+        what_a_move_keeps();
         match self.settle(plant) {
             Ok(()) => self.ask_settled(plant, clock, entropy, caller, command),
             Err(reply) => reply,
@@ -161,12 +169,8 @@ impl Engine {
         requires stands { StandsForPlant self.old (P.told plant.old) }
         requires caller { IsCaller caller.now }
         requires command { IsCommand command.now }
-        ensures goes { Goes self.old.history (outside_of (P.told plant.old) (C.told clock.old) (E.told entropy.old)) caller.now command.now result self.new
-            (outside_of (P.told plant.new) (C.told clock.new) (E.told entropy.new)) }
-        ensures foreign { (at : ℕ) → result ≢ Reply.JournalBad at }
-        ensures disk { result ≡ Reply.DiskFault → Rose (P.told plant.old).disk_faults (P.told plant.new).disk_faults }
-        ensures stands { StandsForPlant self.new (P.told plant.new) }
-        ensures later { (P.told plant.old).disk_faults ≤ (P.told plant.new).disk_faults }
+        ensures goes { GoesBy self.old.history caller.now command.now (P.told plant.old) (P.told plant.new) (outside_of (P.told plant.old) (C.told clock.old) (E.told entropy.old))
+            (outside_of (P.told plant.new) (C.told clock.new) (E.told entropy.new)) result self.new }
     {
         if !command.allowed(caller.role) {
             return Reply::RoleDenied;
@@ -175,7 +179,7 @@ impl Engine {
     }
 
     /// Answers a command that the caller's role has.
-    #[tactic(auto, using(crate::proofs::Steps::asks_read, crate::proofs::Steps::asks_unread, crate::proofs::Steps::not_foreign))]
+    #[tactic(auto, using(crate::proofs::Steps::asks_read, crate::proofs::Steps::asks_unread))]
     fn ask_allowed<P: Plant, C: Clock, E: Entropy>(
         &mut self,
         plant: &mut P,
@@ -188,14 +192,9 @@ impl Engine {
         requires stands { StandsForPlant self.old (P.told plant.old) }
         requires caller { IsCaller caller.now }
         requires command { IsCommand command.now }
-        ensures asks { Asks self.old.history (outside_of (P.told plant.old) (C.told clock.old) (E.told entropy.old)) caller.now command.now result self.new
-            (outside_of (P.told plant.new) (C.told clock.new) (E.told entropy.new)) }
-        ensures foreign { (at : ℕ) → result ≢ Reply.JournalBad at }
-        ensures disk { result ≡ Reply.DiskFault → Rose (P.told plant.old).disk_faults (P.told plant.new).disk_faults }
-        ensures stands { StandsForPlant self.new (P.told plant.new) }
-        ensures later { (P.told plant.old).disk_faults ≤ (P.told plant.new).disk_faults }
+        ensures asks { AsksBy self.old.history caller.now command.now (P.told plant.old) (P.told plant.new) (outside_of (P.told plant.old) (C.told clock.old) (E.told entropy.old))
+            (outside_of (P.told plant.new) (C.told clock.new) (E.told entropy.new)) result self.new }
     {
-        what_follows_a_reading();
         match clock.now() {
             Ok(reading) => self.act(plant, entropy, caller, command, reading),
             Err(_) => Reply::ClockFault,
@@ -216,11 +215,8 @@ impl Engine {
         requires stands { StandsForPlant self.old (P.told plant.old) }
         requires caller { IsCaller caller.now }
         requires command { IsCommand command.now }
-        ensures acts { Acts self.old.history caller.now command.now reading (devices_of (P.told plant.old) (E.told entropy.old)) result self.new
-            (devices_of (P.told plant.new) (E.told entropy.new)) }
-        ensures disk { result ≡ Reply.DiskFault → Rose (P.told plant.old).disk_faults (P.told plant.new).disk_faults }
-        ensures stands { StandsForPlant self.new (P.told plant.new) }
-        ensures later { (P.told plant.old).disk_faults ≤ (P.told plant.new).disk_faults }
+        ensures acts { ActsBy self.old.history caller.now command.now reading (P.told plant.old) (P.told plant.new) (E.told entropy.old) (E.told entropy.new)
+            result self.new }
     {
         match self.answer(caller, command, reading, None) {
             Ok(Answer::NeedDraw) => self.act_drawn(plant, entropy, caller, command, reading),
@@ -244,11 +240,8 @@ impl Engine {
         requires caller { IsCaller caller.now }
         requires command { IsCommand command.now }
         requires needs { Answers self.old.history caller.now command.now reading None Answer.NeedDraw }
-        ensures acts { Acts self.old.history caller.now command.now reading (devices_of (P.told plant.old) (E.told entropy.old)) result self.new
-            (devices_of (P.told plant.new) (E.told entropy.new)) }
-        ensures disk { result ≡ Reply.DiskFault → Rose (P.told plant.old).disk_faults (P.told plant.new).disk_faults }
-        ensures stands { StandsForPlant self.new (P.told plant.new) }
-        ensures later { (P.told plant.old).disk_faults ≤ (P.told plant.new).disk_faults }
+        ensures acts { ActsBy self.old.history caller.now command.now reading (P.told plant.old) (P.told plant.new) (E.told entropy.old) (E.told entropy.new)
+            result self.new }
     {
         let Ok(draw) = entropy.draw16() else {
             return Reply::EntropyFault;
@@ -289,11 +282,7 @@ impl Engine {
         requires stands { StandsForPlant self.old (P.told plant.old) }
         requires ready { IsReady self.old.history answer }
         requires may { (draw : SixteenValue) → MayBe (Some draw) answer }
-        ensures does { WantsRoom self.old.history (signer_of (P.told plant.old)) result self.new (signer_of (P.told plant.new))
-            ⊎ Does answer self.old.history (signer_of (P.told plant.old)) result self.new (signer_of (P.told plant.new)) }
-        ensures disk { result ≡ Reply.DiskFault → Rose (P.told plant.old).disk_faults (P.told plant.new).disk_faults }
-        ensures stands { StandsForPlant self.new (P.told plant.new) }
-        ensures later { (P.told plant.old).disk_faults ≤ (P.told plant.new).disk_faults }
+        ensures carries { CarriesOut answer self.old.history (P.told plant.old) (P.told plant.new) result self.new }
     {
         match answer {
             Answer::Say(reply) => reply,

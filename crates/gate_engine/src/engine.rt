@@ -15,7 +15,7 @@ pub struct Engine {
 }
 
 impl Model for Engine {
-    ghost use Rattle.gate_machine.specs.Step.{Held};
+    ghost use Rattle.gate_machine.specs.Move.{Held};
     ghost use Rattle.gate_engine.specs.Engine.{Sound};
 
     ghost Value = { Held };

@@ -241,6 +241,39 @@ fn sized_request(rt: &impl Abort, alloc: Global, size: usize) -> Bytes {
     }
 }
 
+/// So many names, each another one.
+fn many_names(rt: &impl Abort, alloc: Global, count: usize) -> Vec<Named> {
+    let mut names = Vec::new(alloc);
+    for octet in 0..=255 {
+        if names.len() < count {
+            names.push(Host(octet)).expect(rt, "memory");
+        }
+    }
+    names
+}
+
+/// The retry key, how many names, and the reply.
+const COUNTS: &[(&[u8], usize, Said)] = &[
+    (b"a", 0, (BAD_FIELDS, 2)),
+    (b"b", 1, (PLACED, 15)),
+    (b"c", 100, (PLACED, 16)),
+    (b"d", 101, (BAD_FIELDS, 2)),
+    (b"e", 255, (BAD_FIELDS, 2)),
+];
+
+/// The reply to an order for so many names.
+fn counted(rt: &impl Abort, alloc: Global, gate: &mut Gate, key: &[u8], count: usize) -> Said {
+    let request = request(rt, alloc, 0x11);
+    let names = many_names(rt, alloc, count);
+    let fields = Fields {
+        key,
+        names: names.as_slice(),
+        days: 47,
+        common: false,
+    };
+    reply(rt, alloc, gate, fields, request.as_slice())
+}
+
 #[test]
 fn the_least_broken_rule_is_told(rt: HostRuntime) {
     let alloc = rt.alloc();
@@ -257,40 +290,9 @@ fn the_least_broken_rule_is_told(rt: HostRuntime) {
         assert_eq!(rt; got, *want, "{key:?} {days} {common} {size}");
     }
     assert_eq!(rt; gate.engine.count(), 14);
-}
-
-/// So many names, each another one.
-fn many_names(rt: &impl Abort, alloc: Global, count: usize) -> Vec<Named> {
-    let mut names = Vec::new(alloc);
-    for octet in 0..=255 {
-        if names.len() < count {
-            names.push(Host(octet)).expect(rt, "memory");
-        }
-    }
-    names
-}
-
-#[test]
-fn an_order_has_1_to_100_names(rt: HostRuntime) {
-    let alloc = rt.alloc();
-    let mut gate = begun_gate(&rt, alloc);
-    let request = request(&rt, alloc, 0x11);
-    for (key, count, want) in [
-        (b"a", 0, (BAD_FIELDS, 2)),
-        (b"b", 1, (PLACED, 2)),
-        (b"c", 100, (PLACED, 3)),
-        (b"d", 101, (BAD_FIELDS, 2)),
-        (b"e", 255, (BAD_FIELDS, 2)),
-    ] {
-        let names = many_names(&rt, alloc, count);
-        let fields = Fields {
-            key,
-            names: names.as_slice(),
-            days: 47,
-            common: false,
-        };
-        let got = reply(&rt, alloc, &mut gate, fields, request.as_slice());
-        assert_eq!(rt; got, want, "{count} names");
+    for (key, count, want) in COUNTS {
+        let got = counted(&rt, alloc, &mut gate, key, *count);
+        assert_eq!(rt; got, *want, "{count} names");
     }
 }
 

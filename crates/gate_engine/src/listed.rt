@@ -9,7 +9,7 @@ use std::alloc::Global;
 use std::process::Abort;
 
 /// An order that was placed.
-#[derive(Clone, Copy)]
+#[derive(Clone, Copy, Debug)]
 pub struct Row {
     pub number: u64,
     pub moment: u64,

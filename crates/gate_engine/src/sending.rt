@@ -6,9 +6,8 @@ ghost use Rattle.gate_entries.specs.Spelling.{entry_bytes, IsEntry};
 ghost use Rattle.gate_machine.specs.History.{journal_size, IsSignature, Follows};
 ghost use Rattle.gate_machine.specs.Sends.{is_send_for, order_in, body_in, certificate_bytes, IsGoodBody};
 ghost use Rattle.gate_machine.specs.Answer.{IsReadyToSend};
-ghost use Rattle.gate_machine.specs.Step.{Sent, signer_of};
-ghost use Rattle.gate_engine.specs.Engine.{StandsForPlant, WantsRoom, Sound, held_as};
-ghost use Rattle.gate_engine.specs.Signing.{IsSigning, MayBeSigned, HasRoomToSign, SignsAs, KeepsAs};
+ghost use Rattle.gate_engine.specs.Engine.{StandsForPlant, Leaves, CarriesOut, Sound, held_as};
+ghost use Rattle.gate_engine.specs.Signing.{signed_as, IsSigning, MayBeSigned, HasRoomToSign, SignsAs, KeepsAs};
 
 use crate::engine::Engine;
 use crate::writing::commit;
@@ -16,7 +15,8 @@ use der_text::a_head_is_short;
 use gate_base::{Bytes, Moment, NoMemory, Plain, SigAlg, Sixteen};
 use gate_entries::{Entry, Reply, What, put_signed, write_entry};
 use gate_machine::{
-    a_body_has_a_serial_number, a_signature_follows, body_in, one_entry_more, serial_in, to_sixteen,
+    Answer, a_body_has_a_serial_number, a_signature_follows, body_in, one_entry_more, serial_in,
+    to_sixteen,
 };
 use journal_core::Journal;
 use plant::{Plant, SIGNATURE_ROOM, SignerFault};
@@ -116,6 +116,7 @@ fn keep_signature<P: Plant>(
     requires spare { AROUND_A_CALLER + length signing.caller ≤ journal.old.spare }
     requires capacity { vec_len history.old < vec_capacity history.old }
     ensures kept { KeepsAs signing history.old.items signature.now result (held_as history.new.items loose.new) }
+    ensures follows { Follows history.old.items (signed_as signing signature.now) }
     ensures sound { Sound journal.new history.new.items loose.new }
     ensures stands { StandsForPlant (held_as history.new.items loose.new) (P.told plant.new) }
     ensures disk { result ≡ Reply.DiskFault → Rose (P.told plant.old).disk_faults (P.told plant.new).disk_faults }
@@ -155,7 +156,7 @@ fn keep_signature<P: Plant>(
 }
 
 /// Has the signer sign a body whose entry is durable.
-fn sign<P: Plant>(
+fn sign_body<P: Plant>(
     journal: &mut Journal,
     history: &mut Vec<Entry>,
     loose: &mut Option<Entry>,
@@ -169,11 +170,9 @@ fn sign<P: Plant>(
     requires room { HasRoomToSign signing }
     requires spare { AROUND_A_CALLER + length signing.caller ≤ journal.old.spare }
     requires capacity { vec_len history.old < vec_capacity history.old }
-    ensures signed { SignsAs signing history.old.items (signer_of (P.told plant.old)) result (held_as history.new.items loose.new) (signer_of (P.told plant.new)) }
+    ensures signed { SignsAs signing history.old.items (P.told plant.old) (P.told plant.new) result (held_as history.new.items loose.new) }
     ensures sound { Sound journal.new history.new.items loose.new }
-    ensures stands { StandsForPlant (held_as history.new.items loose.new) (P.told plant.new) }
-    ensures disk { result ≡ Reply.DiskFault → Rose (P.told plant.old).disk_faults (P.told plant.new).disk_faults }
-    ensures later { (P.told plant.old).disk_faults ≤ (P.told plant.new).disk_faults }
+    ensures leaves { Leaves (P.told plant.old) (P.told plant.new) result (held_as history.new.items loose.new) }
 {
     let mut room = [0; SIGNATURE_ROOM];
     match plant.sign(signing.body.as_slice(), &mut room) {
@@ -219,11 +218,7 @@ impl Engine {
         requires settled { self.old.loose ≡ None }
         requires stands { StandsForPlant self.old (P.told plant.old) }
         requires ready { IsReadyToSend self.old.history entry }
-        ensures sent { WantsRoom self.old.history (signer_of (P.told plant.old)) result self.new (signer_of (P.told plant.new))
-            ⊎ Sent self.old.history entry (signer_of (P.told plant.old)) result self.new (signer_of (P.told plant.new)) }
-        ensures disk { result ≡ Reply.DiskFault → Rose (P.told plant.old).disk_faults (P.told plant.new).disk_faults }
-        ensures stands { StandsForPlant self.new (P.told plant.new) }
-        ensures later { (P.told plant.old).disk_faults ≤ (P.told plant.new).disk_faults }
+        ensures carries { CarriesOut (Answer.Send entry) self.old.history (P.told plant.old) (P.told plant.new) result self.new }
     {
         a_body_has_a_serial_number();
         let order = order_in(&entry.what);
@@ -249,6 +244,7 @@ impl Engine {
 }
 
 /// Commits the entry of a body, and has the body signed.
+#[tactic(auto, using(crate::proofs::Signings::carries_signed, crate::proofs::Signings::carries_unsent))]
 fn send_prepared<P: Plant>(
     journal: &mut Journal,
     history: &mut Vec<Entry>,
@@ -267,18 +263,15 @@ fn send_prepared<P: Plant>(
     requires room { HasRoomToSign signing }
     requires spare { (length payload.now ≤ journal.old.spare) × (AROUND_A_CALLER + length signing.caller ≤ journal.old.spare) }
     requires capacity { vec_len history.old + 2 ≤ vec_capacity history.old }
-    ensures sent { Sent history.old.items entry (signer_of (P.told plant.old)) result (held_as history.new.items loose.new) (signer_of (P.told plant.new)) }
+    ensures carries { CarriesOut (Answer.Send entry) history.old.items (P.told plant.old) (P.told plant.new) result (held_as history.new.items loose.new) }
     ensures sound { Sound journal.new history.new.items loose.new }
-    ensures stands { StandsForPlant (held_as history.new.items loose.new) (P.told plant.new) }
-    ensures disk { result ≡ Reply.DiskFault → Rose (P.told plant.old).disk_faults (P.told plant.new).disk_faults }
-    ensures later { (P.told plant.old).disk_faults ≤ (P.told plant.new).disk_faults }
 {
     one_entry_more();
     a_signature_follows();
     if !commit(journal, history, loose, plant, entry, payload) {
         return Reply::DiskFault;
     }
-    sign(journal, history, loose, plant, signing)
+    sign_body(journal, history, loose, plant, signing)
 }
 
 /// The order for which an entry sends a body.

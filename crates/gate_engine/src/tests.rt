@@ -163,7 +163,7 @@ pub struct Gate {
 }
 
 impl Model for Gate {
-    ghost use Rattle.gate_machine.specs.Step.{Held};
+    ghost use Rattle.gate_machine.specs.Move.{Held};
     ghost use Rattle.plant.specs.Memory.{plant_told};
     ghost use Rattle.gate_engine.specs.Engine.{StandsForPlant};
 
@@ -537,147 +537,150 @@ fn start_fault(rt: &impl Abort, alloc: Global, plant: &mut MemoryPlant) -> Optio
     Engine::start(alloc, plant, &mut clock, &[]).err()
 }
 
-/// The same for the journal of two payloads.
-fn fault_of_two(rt: &impl Abort, alloc: Global, first: &[u8], second: &[u8]) -> Option<StartFault> {
+/// What a record of a journal holds.
+#[derive(Clone, Copy, Debug)]
+enum Record {
+    /// The settings that a journal begins with, and an order that may come behind them.
+    Begin,
+    FirstOrder,
+    /// The same order with this number and this moment.
+    Numbered(u64, u64),
+    /// An order with this number, caller, retry key and content.
+    Keyed(u64, u8, u8, u8),
+    These(&'static [u8]),
+}
+
+use Record::{Begin, FirstOrder, Keyed, Numbered, These};
+
+fn record_payload(rt: &impl Abort, alloc: Global, record: Record) -> Vec<u8> {
+    match record {
+        Begin => SETTINGS.to_vec(alloc).expect(rt, "memory"),
+        These(written) => written.to_vec(alloc).expect(rt, "memory"),
+        FirstOrder => payload(rt, alloc, ORDER),
+        Numbered(number, moment) => {
+            let row = Row {
+                number,
+                moment,
+                ..ORDER
+            };
+            payload(rt, alloc, row)
+        }
+        Keyed(number, caller, key, content) => {
+            let row = Row {
+                number,
+                moment: BEGUN,
+                caller,
+                key,
+                content,
+            };
+            payload(rt, alloc, row)
+        }
+    }
+}
+
+/// Begins a journal with the first of these records, and appends the others.
+fn fault_of_records(rt: &impl Abort, alloc: Global, records: &[Record]) -> Option<StartFault> {
     let mut plant = empty_plant(rt, alloc, &[]);
-    begin_with(rt, alloc, &mut plant, first);
-    append(rt, alloc, &mut plant, second);
+    for (place, record) in records.iter().enumerate() {
+        let payload = record_payload(rt, alloc, *record);
+        if place == 0 {
+            begin_with(rt, alloc, &mut plant, &payload);
+        } else {
+            append(rt, alloc, &mut plant, &payload);
+        }
+    }
     start_fault(rt, alloc, &mut plant)
 }
 
-/// The same for the settings, the order and one order more.
-fn fault_behind_order(rt: &impl Abort, alloc: Global, row: Row) -> Option<StartFault> {
-    let mut plant = empty_plant(rt, alloc, &[]);
-    begin_with(rt, alloc, &mut plant, SETTINGS);
-    append(rt, alloc, &mut plant, &payload(rt, alloc, ORDER));
-    append(rt, alloc, &mut plant, &payload(rt, alloc, row));
-    start_fault(rt, alloc, &mut plant)
-}
-
-/// The same for these bytes.
-fn fault_of_bytes(rt: &impl Abort, alloc: Global, disk: &[u8]) -> Option<StartFault> {
-    let disk = bytes(rt, alloc, disk);
+/// The same for these bytes, and zeros up to the size where they are fewer.
+fn fault_of_bytes(
+    rt: &impl Abort,
+    alloc: Global,
+    pieces: &[&[u8]],
+    size: usize,
+) -> Option<StartFault> {
+    let mut disk = Vec::new(alloc);
+    for piece in pieces {
+        put(rt, &mut disk, piece);
+    }
+    let size = size.max(disk.len());
+    disk.resize(size, 0).expect(rt, "memory");
+    let disk = Bytes::from_vec(disk);
     let mut plant = MemoryPlant::new(alloc, disk, Bytes::new(alloc), Sequence::new(alloc));
     start_fault(rt, alloc, &mut plant)
 }
 
-fn bad_at(at: u64) -> Option<StartFault> {
-    Some(StartFault::JournalBad { at })
-}
-
-#[test]
-fn an_order_that_may_not_follow_is_told(rt: HostRuntime) {
+/// The records of a journal, and from which place on it is bad.
+const JOURNALS: &[(&[Record], Option<u64>)] = &[
     // numbers and moments behind the settings
-    for (number, moment, want) in [
-        (2, BEGUN, None),
-        (2, LAST, None),
-        (0, BEGUN, bad_at(43)),
-        (1, BEGUN, bad_at(43)),
-        (3, BEGUN, bad_at(43)),
-        (u64::MAX, BEGUN, bad_at(43)),
-        (2, BEGUN - 1, bad_at(43)),
-        (2, LAST + 1, bad_at(43)),
-    ] {
-        let row = Row {
-            number,
-            moment,
-            ..ORDER
-        };
-        let payload = payload(&rt, rt.alloc(), row);
-        let fault = fault_of_two(&rt, rt.alloc(), SETTINGS, &payload);
-        assert_eq!(rt; fault, want, "{number} at {moment}");
+    (&[Begin, Numbered(2, BEGUN)], None),
+    (&[Begin, Numbered(2, LAST)], None),
+    (&[Begin, Numbered(0, BEGUN)], Some(43)),
+    (&[Begin, Numbered(1, BEGUN)], Some(43)),
+    (&[Begin, Numbered(3, BEGUN)], Some(43)),
+    (&[Begin, Numbered(u64::MAX, BEGUN)], Some(43)),
+    (&[Begin, Numbered(2, BEGUN - 1)], Some(43)),
+    (&[Begin, Numbered(2, LAST + 1)], Some(43)),
+    // fields that break a rule
+    (&[Begin, Keyed(2, 0, 0, 5)], Some(43)),
+    (&[Begin, Keyed(2, 0, 0, 6)], Some(43)),
+    // keys behind an order
+    (&[Begin, FirstOrder, Keyed(3, 0, 1, 0)], None),
+    (&[Begin, FirstOrder, Keyed(3, 1, 0, 0)], None),
+    (&[Begin, FirstOrder, Keyed(3, 0, 0, 0)], Some(211)),
+    (&[Begin, FirstOrder, Keyed(3, 0, 0, 1)], Some(211)),
+    (&[Begin, FirstOrder, Keyed(2, 0, 1, 0)], Some(211)),
+    // other payloads
+    (&[FirstOrder, Begin], Some(16)),
+    (&[Numbered(1, BEGUN), Begin], Some(16)),
+    (&[Begin, Begin], Some(43)),
+    (&[Begin, These(b"x")], Some(43)),
+    (&[These(b"x"), These(b"x")], Some(16)),
+];
+
+const HEAD: &[u8] = b"gate journal 00\n";
+
+const BAD_FIRST: Option<StartFault> = Some(StartFault::JournalBad { at: 16 });
+
+const BAD_SECOND: Option<StartFault> = Some(StartFault::JournalBad { at: 43 });
+
+/// The bytes of a disk, its size where that is more, and why no engine starts from it.
+const DISKS: &[(&[&[u8]], usize, Option<StartFault>)] = &[
+    (&[], 0, Some(StartFault::NotBegun)),
+    (&[b"gate journal 0\n"], 0, Some(StartFault::NotBegun)),
+    (&[BEGUN_DISK], 0, None),
+    // no record, and torn ones
+    (&[HEAD], 0, BAD_FIRST),
+    (&[HEAD, b"\0\0\0"], 0, BAD_FIRST),
+    (&[HEAD, b"\0\0\0\0"], 0, BAD_FIRST),
+    (&[HEAD, b"\0\0\0\x02\x02"], 0, BAD_FIRST),
+    // a torn second record
+    (&[BEGUN_DISK, b"\0"], 0, BAD_SECOND),
+    (&[BEGUN_DISK, b"\0\0\0\0"], 0, BAD_SECOND),
+    (&[BEGUN_DISK, b"\0\0\0\x03\x02\0"], 0, BAD_SECOND),
+    (&[BEGUN_DISK, b"\xff\xff\xff\xff\x02"], 0, BAD_SECOND),
+    // the greatest length of a journal, and one byte more
+    (&[HEAD], 67_108_864, BAD_FIRST),
+    (
+        &[HEAD],
+        67_108_865,
+        Some(StartFault::JournalBad { at: 67_108_864 }),
+    ),
+];
+
+#[test]
+fn no_engine_starts_from_a_journal_that_is_not_legal(rt: HostRuntime) {
+    for (records, want) in JOURNALS {
+        let fault = fault_of_records(&rt, rt.alloc(), records);
+        let want = want.map(|at| StartFault::JournalBad { at });
+        assert_eq!(rt; fault, want, "{records:?}");
     }
 }
 
 #[test]
-fn an_order_that_breaks_a_rule_is_told(rt: HostRuntime) {
-    for content in [5, 6] {
-        let row = Row { content, ..ORDER };
-        let payload = payload(&rt, rt.alloc(), row);
-        let fault = fault_of_two(&rt, rt.alloc(), SETTINGS, &payload);
-        assert_eq!(rt; fault, bad_at(43), "content {content}");
-    }
-}
-
-#[test]
-fn a_key_that_stands_is_told(rt: HostRuntime) {
-    // number, caller, key and content behind an order
-    for (number, caller, key, content, want) in [
-        (3, 0, 1, 0, None),
-        (3, 1, 0, 0, None),
-        (3, 0, 0, 0, bad_at(211)),
-        (3, 0, 0, 1, bad_at(211)),
-        (2, 0, 1, 0, bad_at(211)),
-    ] {
-        let row = Row {
-            number,
-            moment: BEGUN,
-            caller,
-            key,
-            content,
-        };
-        let fault = fault_behind_order(&rt, rt.alloc(), row);
-        assert_eq!(rt; fault, want, "{number} {caller} {key} {content}");
-    }
-}
-
-#[test]
-fn other_payloads_are_told(rt: HostRuntime) {
-    let order = payload(&rt, rt.alloc(), ORDER);
-    let first = payload(&rt, rt.alloc(), Row { number: 1, ..ORDER });
-    for (first, second, at) in [
-        (order.as_slice(), SETTINGS, 16),
-        (first.as_slice(), SETTINGS, 16),
-        (SETTINGS, SETTINGS, 43),
-        (SETTINGS, b"x".as_slice(), 43),
-        (b"x".as_slice(), b"x".as_slice(), 16),
-    ] {
-        let fault = fault_of_two(&rt, rt.alloc(), first, second);
-        assert_eq!(rt; fault, bad_at(at), "{first:?} {second:?}");
-    }
-}
-
-#[test]
-fn bytes_that_are_no_journal_are_told(rt: HostRuntime) {
-    let not_begun = Some(StartFault::NotBegun);
-    for (disk, want) in [
-        (b"".as_slice(), not_begun),
-        (b"gate journal 0\n".as_slice(), not_begun),
-        // no record, and torn ones
-        (b"gate journal 00\n".as_slice(), bad_at(16)),
-        (b"gate journal 00\n\0\0\0".as_slice(), bad_at(16)),
-        (b"gate journal 00\n\0\0\0\0".as_slice(), bad_at(16)),
-        (b"gate journal 00\n\0\0\0\x02\x02".as_slice(), bad_at(16)),
-        (BEGUN_DISK, None),
-    ] {
-        let fault = fault_of_bytes(&rt, rt.alloc(), disk);
-        assert_eq!(rt; fault, want, "{disk:?}");
-    }
-}
-
-#[test]
-fn a_torn_second_record_is_told(rt: HostRuntime) {
-    for tail in [
-        b"\0".as_slice(),
-        b"\0\0\0\0".as_slice(),
-        b"\0\0\0\x03\x02\0".as_slice(),
-        b"\xff\xff\xff\xff\x02".as_slice(),
-    ] {
-        let mut disk = BEGUN_DISK.to_vec(rt.alloc()).expect(&rt, "memory");
-        put(&rt, &mut disk, tail);
-        let fault = fault_of_bytes(&rt, rt.alloc(), &disk);
-        assert_eq!(rt; fault, bad_at(43), "{tail:?}");
-    }
-}
-
-#[test]
-fn a_disk_that_is_too_long_is_told(rt: HostRuntime) {
-    let mut disk = b"gate journal 00\n"
-        .to_vec(rt.alloc())
-        .expect(&rt, "memory");
-    for (size, at) in [(67_108_864, 16), (67_108_865, 67_108_864)] {
-        disk.resize(size, 0).expect(&rt, "memory");
-        let fault = fault_of_bytes(&rt, rt.alloc(), &disk);
-        assert_eq!(rt; fault, bad_at(at), "{size} bytes");
+fn no_engine_starts_from_bytes_that_are_no_journal(rt: HostRuntime) {
+    for (pieces, size, want) in DISKS {
+        let fault = fault_of_bytes(&rt, rt.alloc(), pieces, *size);
+        assert_eq!(rt; fault, *want, "{pieces:?} of {size} bytes");
     }
 }

@@ -5,13 +5,13 @@ ghost use Rattle.plant.specs.Plant.{LeavesSigner};
 ghost use Rattle.gate_entries.specs.Spelling.{entry_bytes, IsEntry};
 ghost use Rattle.gate_machine.specs.History.{journal_size, record_size, Follows};
 ghost use Rattle.gate_machine.specs.Answer.{IsReadyToWrite};
-ghost use Rattle.gate_machine.specs.Step.{Holds, Waits, Wrote, signer_of};
-ghost use Rattle.gate_engine.specs.Engine.{StandsForPlant, WantsRoom, Sound, held_as};
+ghost use Rattle.gate_machine.specs.Move.{Holds, Waits};
+ghost use Rattle.gate_engine.specs.Engine.{StandsForPlant, CarriesOut, Sound, held_as};
 
 use crate::engine::Engine;
 use gate_base::NoMemory;
 use gate_entries::{Entry, Reply, write_entry};
-use gate_machine::{one_entry_more, written_reply};
+use gate_machine::{Answer, one_entry_more, written_reply};
 use journal_core::{AppendDisk, Journal, one_record_more};
 use plant::Plant;
 use std::alloc::Global;
@@ -74,15 +74,12 @@ pub fn commit<P: Plant>(
 
 impl Engine {
     /// Commits an entry; where the disk fails it is loose.
+    #[tactic(auto, using(crate::proofs::Steps::carries_written, crate::proofs::Steps::carries_lost))]
     pub(crate) fn write<P: Plant>(&mut self, plant: &mut P, entry: Entry) -> Reply
         requires settled { self.old.loose ≡ None }
         requires stands { StandsForPlant self.old (P.told plant.old) }
         requires ready { IsReadyToWrite self.old.history entry }
-        ensures wrote { WantsRoom self.old.history (signer_of (P.told plant.old)) result self.new (signer_of (P.told plant.new))
-            ⊎ (Wrote self.old.history entry result self.new × (signer_of (P.told plant.new) ≡ signer_of (P.told plant.old))) }
-        ensures disk { result ≡ Reply.DiskFault → Rose (P.told plant.old).disk_faults (P.told plant.new).disk_faults }
-        ensures stands { StandsForPlant self.new (P.told plant.new) }
-        ensures later { (P.told plant.old).disk_faults ≤ (P.told plant.new).disk_faults }
+        ensures carries { CarriesOut (Answer.Write entry) self.old.history (P.told plant.old) (P.told plant.new) result self.new }
     {
         let reply = written_reply(&entry);
         let Ok(payload) = spell(self.alloc, &mut self.journal, &entry) else {

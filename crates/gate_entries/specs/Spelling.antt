@@ -1,13 +1,12 @@
 -- The one spelling of each entry. Numbers are big-endian; bytes are counted by a number in front of them.
-use Rattle.std.specs.Prelude.{◌≡◌, ℕ, ◌<◌, ◌≤◌, ◌^◌, List, [], ◌∷◌, ◌++◌, length, Bool, Ok, if◌then◌else◌}
+use Rattle.std.specs.Prelude.{◌≡◌, ℕ, ◌<◌, ◌≤◌, ◌^◌, List, [], ◌∷◌, ◌++◌, length, Bool, if◌then◌else◌}
 use Rattle.std.specs.List.{flat_map, join_with_byte, AllByRecursion}
 use Rattle.std.specs.Int.{Width, w8, w16, w32, w64, to_be_bytes}
 use Rattle.gate_base.specs.declared.name.Address.TheVariants.{V4, V6}
 use Rattle.gate_base.specs.declared.name.Name.{Name}
 use Rattle.gate_base.specs.declared.name.Target.{Target}
 use Rattle.gate_base.specs.declared.name.Target.TheVariants.{Dns, Ip}
-use Rattle.names_core.specs.Name.{name_read}
-use Rattle.names_core.specs.Target.{name_text}
+use Rattle.names_core.specs.Target.{IsName}
 use Rattle.gate_entries.specs.declared.entry.Entry.{Entry}
 use Rattle.gate_entries.specs.declared.entry.What.{What}
 use Rattle.gate_entries.specs.declared.entry.What.TheVariants.{Settings, Order, Send, Signed, Blocked}
@@ -61,9 +60,9 @@ entry_bytes entry =
 
 -- ---- what has a spelling
 
--- a name is the one that its own text is read to
+-- a name is what its own text is read to, and an address has the octets of its kind
 abbrev pub IsTarget : Target → Type 0
-IsTarget (Dns name) = name_read (name_text name) ≡ Ok name
+IsTarget (Dns name) = IsName name
 IsTarget (Ip (V4 octets)) = length octets ≡ 4
 IsTarget (Ip (V6 octets)) = length octets ≡ 16
 

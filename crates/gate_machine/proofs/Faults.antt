@@ -1,5 +1,5 @@
--- What may follow a reading.
-use Rattle.std.proofs.Common.{◌≡◌, ◌≢◌, ℕ, List, [], ◌∷◌, false, Option, Some, None, refl, sym, subst, inl, inr, ap, ◌∙◌}
+-- Which failures a reply may tell.
+use Rattle.std.proofs.Common.{◌≡◌, ◌≢◌, ℕ, List, [], ◌∷◌, Bool, true, false, Option, Some, None, refl, sym, subst, inl, inr, ap, ◌∙◌}
 use Rattle.gate_base.specs.declared.sixteen.Sixteen.{Sixteen}
 use Rattle.gate_entries.specs.declared.caller.Caller.{Caller}
 use Rattle.gate_entries.specs.declared.command.Command.{Command}
@@ -8,16 +8,26 @@ use Rattle.gate_entries.specs.declared.entry.Entry.{Entry}
 use Rattle.gate_entries.specs.declared.entry.What.{What}
 use Rattle.gate_entries.specs.declared.entry.What.TheVariants as whats
 use Rattle.gate_entries.specs.declared.reply.Reply.{Reply}
-use Rattle.gate_entries.specs.declared.reply.Reply.TheVariants.{KeyReused, DiskFault}
+use Rattle.gate_entries.specs.declared.reply.Reply.TheVariants.{KeyReused, ClockFault, EntropyFault, DiskFault, SignerFault, JournalBad, NoMemory}
 use Rattle.gate_machine.specs.declared.answer.Answer.{Answer}
 use Rattle.gate_machine.specs.declared.answer.Answer.TheVariants.{Say, Write, Send, NeedDraw}
 use Rattle.gate_machine.specs.Sends.{body_in, sent_by}
 use Rattle.gate_machine.specs.Answer.{Answers, AnswersCommand, AnswersEntry, AnswersNew, AnswersRoom, SaysKept, AnswersFinalize, AnswersOrder, AnswersUnsigned, AnswersDrawn, AnswersSerial, AnswersBody, reply_to}
-use Rattle.gate_machine.specs.Step.{Held, SignerTold, Devices, Wrote, Sent, Does, Acts, is_before_reading}
+use Rattle.gate_machine.specs.Move.{Held, SignerCall, Given, HasFaults, EndsRemount, Wrote, Sent, Does, Acts, Asks, Goes, Moves}
 
--- a reply tells neither a clock that failed nor another journal, and an entry that is sent sends its body
+-- replies that tell a failure, and nothing of what was asked
+abbrev is_failure : Reply → Bool
+is_failure ClockFault = true
+is_failure EntropyFault = true
+is_failure DiskFault = true
+is_failure SignerFault = true
+is_failure (JournalBad at) = true
+is_failure NoMemory = true
+is_failure reply = false
+
+-- an answer tells no failure, and an entry that is sent sends its body
 abbrev pub MayFollow : Answer → Type 0
-MayFollow (Say reply) = is_before_reading reply ≡ false
+MayFollow (Say reply) = is_failure reply ≡ false
 MayFollow (Write entry) = Unit {0}
 MayFollow (Send entry) = sent_by entry.what ≡ body_in entry.what ∷ []
 MayFollow NeedDraw = Unit {0}
@@ -27,14 +37,14 @@ as_answer answer other is may = subst MayFollow (sym is) may
 
 -- ---- what is written under a key
 
-kept : (what : What) (number : ℕ) → is_before_reading (reply_to what number) ≡ false
+kept : (what : What) (number : ℕ) → is_failure (reply_to what number) ≡ false
 kept (whats.Blocked key spki) number = refl
 kept what number = refl
 
-says : (kept_entry entry : Entry) (reply : Reply) → SaysKept kept_entry entry reply → is_before_reading reply ≡ false
+says : (kept_entry entry : Entry) (reply : Reply) → SaysKept kept_entry entry reply → is_failure reply ≡ false
 says kept_entry entry reply is = elim is [
-  | inl same ↦ ap is_before_reading same.1 ∙ kept kept_entry.what kept_entry.number
-  | inr other ↦ ap is_before_reading other.1
+  | inl same ↦ ap is_failure same.1 ∙ kept kept_entry.what kept_entry.number
+  | inr other ↦ ap is_failure other.1
 ]
 
 no_disk : (what : What) (number : ℕ) → reply_to what number ≢ DiskFault
@@ -127,41 +137,184 @@ may_follow history caller command reading drawn answer answers = elim answers [
   | inr in_range ↦ command_may history caller command reading drawn answer in_range.1
 ]
 
--- ---- what is done
+-- ---- another journal
 
-wrote : (history : List Entry) (entry : Entry) (reply : Reply) (new : Held) → Wrote history entry reply new → is_before_reading reply ≡ false
+abbrev is_foreign : Reply → Bool
+is_foreign (JournalBad at) = true
+is_foreign reply = false
+
+native : (reply : Reply) → is_failure reply ≡ false → is_foreign reply ≡ false
+native (JournalBad at) is = is
+native reply is = refl
+
+wrote : (history : List Entry) (entry : Entry) (reply : Reply) (new : Held) → Wrote history entry reply new → is_foreign reply ≡ false
 wrote history entry reply new is = elim is [
-  | inl committed ↦ ap is_before_reading committed.0 ∙ kept entry.what entry.number
-  | inr lost ↦ ap is_before_reading lost.0
+  | inl committed ↦ ap is_foreign committed.0 ∙ native _ (kept entry.what entry.number)
+  | inr lost ↦ ap is_foreign lost.0
 ]
 
-sent : (history : List Entry) (entry : Entry) (signer : SignerTold) (reply : Reply) (new : Held) (signer' : SignerTold)
-    → Sent history entry signer reply new signer' → is_before_reading reply ≡ false
-sent history entry signer reply new signer' is = elim is [
-  | inl lost ↦ ap is_before_reading lost.0
+sent : (history : List Entry) (entry : Entry) (call : Option SignerCall) (reply : Reply) (new : Held) → Sent history entry call reply new → is_foreign reply ≡ false
+sent history entry call reply new is = elim is [
+  | inl unsent ↦ ap is_foreign unsent.fault
   | inr durable ↦ elim durable [
-    | inl unsigned ↦ ap is_before_reading unsigned.fault
+    | inl unsigned ↦ ap is_foreign unsigned.fault
     | inr signed ↦ elim signed.commits [
-      | inl issued ↦ ap is_before_reading issued.0.told
-      | inr lost ↦ ap is_before_reading lost.0
+      | inl issued ↦ ap is_foreign issued.0.told
+      | inr lost ↦ ap is_foreign lost.0
     ]
   ]
 ]
 
-does : (history : List Entry) (answer : Answer) (signer : SignerTold) (reply : Reply) (new : Held) (signer' : SignerTold) → MayFollow answer
-    → Does answer history signer reply new signer' → is_before_reading reply ≡ false
-does history (Say told) signer reply new signer' may done = ap is_before_reading done.0 ∙ may
-does history (Write entry) signer reply new signer' may done = wrote history entry reply new done.0
-does history (Send entry) signer reply new signer' may done = sent history entry signer reply new signer' done
-does history NeedDraw signer reply new signer' may done = absurd done
+does : (history : List Entry) (answer : Answer) (call : Option SignerCall) (reply : Reply) (new : Held) → MayFollow answer
+    → Does answer history call reply new → is_foreign reply ≡ false
+does history (Say told) call reply new may done = ap is_foreign done.0 ∙ native told may
+does history (Write entry) call reply new may done = wrote history entry reply new done.0
+does history (Send entry) call reply new may done = sent history entry call reply new done
+does history NeedDraw call reply new may done = absurd done
 
-pub acts_no_fault : (history : List Entry) (caller : Caller) (command : Command) (reading : ℕ) (devices : Devices) (reply : Reply) (new : Held) (devices' : Devices)
-    → Acts history caller command reading devices reply new devices' → is_before_reading reply ≡ false
-acts_no_fault history caller command reading devices reply new devices' acts = elim acts [
-  | inl memory ↦ ap is_before_reading memory.told
+acts : (history : List Entry) (caller : Caller) (command : Command) (reading : ℕ) (draw : Option (Option Sixteen)) (call : Option SignerCall) (reply : Reply) (new : Held)
+    → Acts history caller command reading draw call reply new → is_foreign reply ≡ false
+acts history caller command reading draw call reply new is = elim is [
+  | inl memory ↦ ap is_foreign memory.told
   | inr other ↦ elim other [
-    | inl undrawn ↦ ap is_before_reading undrawn.fault
-    | inr acted ↦ does history acted.answer devices.signer reply new devices'.signer
-        (may_follow history caller command reading acted.drawn acted.answer acted.answers) acted.does
+    | inl undrawn ↦ ap is_foreign undrawn.fault
+    | inr acted ↦ does history acted.answer call reply new (may_follow history caller command reading acted.drawn acted.answer acted.answers) acted.does
   ]
+]
+
+asks : (history : List Entry) (caller : Caller) (command : Command) (given : Given) (reply : Reply) (new : Held) → Asks history caller command given reply new
+    → is_foreign reply ≡ false
+asks history caller command given reply new is = elim is [
+  | inl fails ↦ ap is_foreign fails.fault
+  | inr read ↦ acts history caller command read.reading given.draw given.call reply new read.acts
+]
+
+goes : (history : List Entry) (caller : Caller) (command : Command) (given : Given) (reply : Reply) (new : Held) → Goes history caller command given reply new
+    → is_foreign reply ≡ false
+goes history caller command given reply new is = elim is [
+  | inl denies ↦ ap is_foreign denies.told
+  | inr allowed ↦ asks history caller command given reply new allowed.1
+]
+
+-- another journal is told only on a remount
+pub goes_native : (history : List Entry) (caller : Caller) (command : Command) (given : Given) (reply : Reply) (new : Held) → Goes history caller command given reply new
+    → (at : ℕ) → reply ≢ JournalBad at
+goes_native history caller command given reply new is at foreign =
+    let wrong = sym (goes history caller command given reply new is) ∙ ap is_foreign foreign in cc wrong
+
+-- ---- faults of the clock, the random draws and the signer
+
+abbrev is_object_fault : Reply → Bool
+is_object_fault ClockFault = true
+is_object_fault EntropyFault = true
+is_object_fault SignerFault = true
+is_object_fault reply = false
+
+sound : (reply : Reply) → is_failure reply ≡ false → is_object_fault reply ≡ false
+sound ClockFault is = is
+sound EntropyFault is = is
+sound SignerFault is = is
+sound reply is = refl
+
+differs : (reply other : Reply) → is_object_fault reply ≡ false → is_object_fault other ≡ true → reply ≡ other → ⊥
+differs reply other none fault is = let wrong = sym none ∙ ap is_object_fault is ∙ fault in cc wrong
+
+no_fault : (given : Given) (reply : Reply) → is_object_fault reply ≡ false → HasFaults given reply
+no_fault given reply none = record {
+  clock = λ is. absurd (differs reply ClockFault none refl is);
+  entropy = λ is. absurd (differs reply EntropyFault none refl is);
+  signer = λ is. absurd (differs reply SignerFault none refl is);
+}
+
+clock_is_no_draw : ClockFault ≡ EntropyFault → ⊥
+clock_is_no_draw is = cc is
+
+clock_is_no_signer : ClockFault ≡ SignerFault → ⊥
+clock_is_no_signer is = cc is
+
+draw_is_no_signer : EntropyFault ≡ SignerFault → ⊥
+draw_is_no_signer is = cc is
+
+clock_fault : (given : Given) (reply : Reply) → reply ≡ ClockFault → given.reading ≡ Some None → HasFaults given reply
+clock_fault given reply fault failed = record {
+  clock = λ is. failed;
+  entropy = λ is. absurd (clock_is_no_draw (sym fault ∙ is));
+  signer = λ is. absurd (clock_is_no_signer (sym fault ∙ is));
+}
+
+entropy_fault : (given : Given) (reply : Reply) → reply ≡ EntropyFault → given.draw ≡ Some None → HasFaults given reply
+entropy_fault given reply fault failed = record {
+  clock = λ is. absurd (clock_is_no_draw (sym is ∙ fault));
+  entropy = λ is. failed;
+  signer = λ is. absurd (draw_is_no_signer (sym fault ∙ is));
+}
+
+signer_fault : (given : Given) (reply : Reply) (body : List ℕ) → reply ≡ SignerFault → given.call ≡ Some (record { body = body; signature = None }) → HasFaults given reply
+signer_fault given reply body fault failed = record {
+  clock = λ is. absurd (clock_is_no_signer (sym is ∙ fault));
+  entropy = λ is. absurd (draw_is_no_signer (sym is ∙ fault));
+  signer = λ is. (body, failed);
+}
+
+module _ (given : Given) (reply : Reply) (new : Held) where
+  wrote_faults : (history : List Entry) (entry : Entry) → Wrote history entry reply new → HasFaults given reply
+  wrote_faults history entry is = elim is [
+    | inl committed ↦ no_fault given reply (ap is_object_fault committed.0 ∙ sound _ (kept entry.what entry.number))
+    | inr lost ↦ no_fault given reply (ap is_object_fault lost.0)
+  ]
+
+  sent_faults : (history : List Entry) (entry : Entry) → Sent history entry given.call reply new → HasFaults given reply
+  sent_faults history entry is = elim is [
+    | inl unsent ↦ no_fault given reply (ap is_object_fault unsent.fault)
+    | inr durable ↦ elim durable [
+      | inl unsigned ↦ signer_fault given reply (body_in entry.what) unsigned.fault unsigned.called
+      | inr signed ↦ elim signed.commits [
+        | inl issued ↦ no_fault given reply (ap is_object_fault issued.0.told)
+        | inr lost ↦ no_fault given reply (ap is_object_fault lost.0)
+      ]
+    ]
+  ]
+
+  does_faults : (history : List Entry) (answer : Answer) → MayFollow answer → Does answer history given.call reply new → HasFaults given reply
+  does_faults history (Say told) may done = no_fault given reply (ap is_object_fault done.0 ∙ sound told may)
+  does_faults history (Write entry) may done = wrote_faults history entry done.0
+  does_faults history (Send entry) may done = sent_faults history entry done
+  does_faults history NeedDraw may done = absurd done
+
+  acts_faults : (history : List Entry) (caller : Caller) (command : Command) (reading : ℕ) → Acts history caller command reading given.draw given.call reply new
+      → HasFaults given reply
+  acts_faults history caller command reading is = elim is [
+    | inl memory ↦ no_fault given reply (ap is_object_fault memory.told)
+    | inr other ↦ elim other [
+      | inl undrawn ↦ entropy_fault given reply undrawn.fault undrawn.failed
+      | inr acted ↦ does_faults history acted.answer (may_follow history caller command reading acted.drawn acted.answer acted.answers) acted.does
+    ]
+  ]
+
+  asks_faults : (history : List Entry) (caller : Caller) (command : Command) → Asks history caller command given reply new → HasFaults given reply
+  asks_faults history caller command is = elim is [
+    | inl fails ↦ clock_fault given reply fails.fault (ap (λ (g : Given). g.reading) fails.gave)
+    | inr read ↦ acts_faults history caller command read.reading read.acts
+  ]
+
+  goes_faults : (history : List Entry) (caller : Caller) (command : Command) → Goes history caller command given reply new → HasFaults given reply
+  goes_faults history caller command is = elim is [
+    | inl denies ↦ no_fault given reply (ap is_object_fault denies.told)
+    | inr allowed ↦ asks_faults history caller command allowed.1
+  ]
+
+  ends_faults : EndsRemount reply → HasFaults given reply
+  ends_faults ends = elim ends [
+    | inl disk ↦ no_fault given reply (ap is_object_fault disk)
+    | inr other ↦ elim other [
+      | inl memory ↦ no_fault given reply (ap is_object_fault memory)
+      | inr journal ↦ no_fault given reply (ap is_object_fault journal.1)
+    ]
+  ]
+
+pub move_faults : (old : Held) (caller : Caller) (command : Command) (given : Given) (reply : Reply) (new : Held) → Moves old caller command given reply new
+    → HasFaults given reply
+move_faults old caller command given reply new moves = elim moves [
+  | inl fails ↦ ends_faults given reply new fails.ends
+  | inr settled ↦ goes_faults given reply new settled.history caller command settled.goes
 ]

@@ -135,7 +135,7 @@ module _ (key : List ℕ) (common : Bool) (days : ℕ) (targets : List Target) (
 
 -- ---- requests
 
--- a first fault that breaks no rule is want of memory
+-- a first fault that breaks no rule is out of memory
 pub unruled : (request : List ℕ) (fault : CsrFault) → IsFirstFault request fault → ((rule : ℕ) → ¬ (HasFault request rule)) → rule_of fault ≡ None
 unruled request (requests.Der fault) first kept = absurd (kept 7 (record { fault = requests.Der fault; first = first; number = refl }))
 unruled request requests.Shape first kept = absurd (kept 8 (record { fault = requests.Shape; first = first; number = refl }))

@@ -3,4 +3,7 @@ pub mod Sends
 pub mod Histories
 pub mod Faults
 pub mod Recorded
+pub mod Moves
+pub mod Steps
+pub mod Serials
 pub mod LeastRule

@@ -10,7 +10,9 @@ use Rattle.gate_entries.specs.declared.reply.Reply.{Reply}
 use Rattle.gate_machine.specs.declared.answer.Answer.{Answer}
 use Rattle.gate_machine.specs.declared.answer.Answer.TheVariants.{Say, Write, Send, NeedDraw}
 use Rattle.gate_machine.specs.Sends.{body_in, sent_by, Within}
-use Rattle.gate_machine.specs.Step.{Held, SignerTold, Devices, Outside, State, Settles, Wrote, Sent, Does, Acts, Asks, Goes, Step, bodies_of, IsRecorded}
+use Rattle.gate_machine.specs.Move.{Held, SignerCall, Given, Settles, Wrote, Sent, Does, Acts, Asks, Goes, Moves}
+use Rattle.gate_machine.specs.Step.{SignerTold, SignerFails, Signs, GivesCall, State, Step, bodies_of, IsRecorded}
+use Rattle.gate_base.specs.declared.sixteen.Sixteen.{Sixteen}
 use Rattle.gate_machine.proofs.Faults.{MayFollow, may_follow}
 
 within_more : (sent all more : List (List ℕ)) → Within sent all → Within sent (all ++ more)
@@ -74,77 +76,91 @@ module _ (history : List Entry) (entry : Entry) (sends : sent_by entry.what ≡ 
 as_history : (signer : SignerTold) (history now : List Entry) → now ≡ history → IsRecorded signer history → IsRecorded signer now
 as_history signer history now is recorded = subst (λ (h : List Entry). IsRecorded signer h) (sym is) recorded
 
-wrote : (history : List Entry) (entry : Entry) (reply : Reply) (new : Held) (signer : SignerTold) → Wrote history entry reply new → IsRecorded signer history
-    → IsRecorded signer new.history
-wrote history entry reply new signer is recorded = elim is [
-  | inl committed ↦ as_history signer _ new.history committed.1.0 (recorded_more signer history (entry ∷ []) recorded)
-  | inr lost ↦ as_history signer _ new.history lost.1.same recorded
-]
+-- what was sent is recorded where the call of the signer gave what it was said to give
+module _ (signer signer' : SignerTold) (call : Option SignerCall) (gives : GivesCall signer signer' call) where
+  uncalled : (history now : List Entry) → call ≡ None → now ≡ history → IsRecorded signer history → IsRecorded signer' now
+  uncalled history now none is recorded =
+      let same : signer' ≡ signer = subst (λ (c : Option SignerCall). GivesCall signer signer' c) none gives in
+      as_history signer' history now is (as_same signer signer' history same recorded)
 
-sent : (history : List Entry) (entry : Entry) (signer : SignerTold) (reply : Reply) (new : Held) (signer' : SignerTold)
-    → sent_by entry.what ≡ body_in entry.what ∷ [] → Sent history entry signer reply new signer' → IsRecorded signer history → IsRecorded signer' new.history
-sent history entry signer reply new signer' sends is recorded = elim is [
-  | inl lost ↦ as_history signer' _ new.history lost.1.same (as_same signer signer' history lost.2 recorded)
-  | inr durable ↦ elim durable [
-    | inl unsigned ↦ as_history signer' _ new.history unsigned.held.0 (elim unsigned.fails.sent [
-      | inl same ↦ kept_list history entry sends signer signer' same recorded
-      | inr more ↦ added history entry sends signer signer' more recorded
-    ])
-    | inr signed ↦ (
-        let now = added history entry sends signer signer' signed.signs.sent recorded in
-        elim signed.commits [
-          | inl issued ↦ as_history signer' _ new.history issued.1.0 (recorded_more signer' (history ++ entry ∷ []) _ now)
-          | inr lost ↦ as_history signer' _ new.history lost.1.same now
-        ]
-        )
+  sent : (history : List Entry) (entry : Entry) (reply : Reply) (new : Held) → sent_by entry.what ≡ body_in entry.what ∷ [] → Sent history entry call reply new
+      → IsRecorded signer history → IsRecorded signer' new.history
+  sent history entry reply new sends is recorded = elim is [
+    | inl unsent ↦ uncalled history new.history unsent.uncalled unsent.waits.same recorded
+    | inr durable ↦ elim durable [
+      | inl unsigned ↦ (
+          let fails : SignerFails signer signer' (body_in entry.what) = subst (λ (c : Option SignerCall). GivesCall signer signer' c) unsigned.called gives in
+          as_history signer' _ new.history unsigned.held.0 (elim fails.sent [
+            | inl same ↦ kept_list history entry sends signer signer' same recorded
+            | inr more ↦ added history entry sends signer signer' more recorded
+          ])
+          )
+      | inr signed ↦ (
+          let signs : Signs signer signer' (body_in entry.what) signed.signature = subst (λ (c : Option SignerCall). GivesCall signer signer' c) signed.called gives in
+          let now = added history entry sends signer signer' signs.sent recorded in
+          elim signed.commits [
+            | inl issued ↦ as_history signer' _ new.history issued.1.0 (recorded_more signer' (history ++ entry ∷ []) _ now)
+            | inr lost ↦ as_history signer' _ new.history lost.1.same now
+          ]
+          )
+    ]
   ]
-]
 
-does : (history : List Entry) (answer : Answer) (signer : SignerTold) (reply : Reply) (new : Held) (signer' : SignerTold) → MayFollow answer
-    → Does answer history signer reply new signer' → IsRecorded signer history → IsRecorded signer' new.history
-does history (Say told) signer reply new signer' may done recorded = as_history signer' _ new.history done.1.0 (as_same signer signer' history done.2 recorded)
-does history (Write entry) signer reply new signer' may done recorded = wrote history entry reply new signer' done.0 (as_same signer signer' history done.1 recorded)
-does history (Send entry) signer reply new signer' may done recorded = sent history entry signer reply new signer' may done recorded
-does history NeedDraw signer reply new signer' may done recorded = absurd done
+  wrote : (history : List Entry) (entry : Entry) (reply : Reply) (new : Held) → call ≡ None → Wrote history entry reply new → IsRecorded signer history
+      → IsRecorded signer' new.history
+  wrote history entry reply new none is recorded =
+      let now : IsRecorded signer' history = uncalled history history none refl recorded in
+      elim is [
+        | inl committed ↦ as_history signer' _ new.history committed.1.0 (recorded_more signer' history (entry ∷ []) now)
+        | inr lost ↦ as_history signer' _ new.history lost.1.same now
+      ]
 
-acts : (history : List Entry) (caller : Caller) (command : Command) (reading : ℕ) (devices : Devices) (reply : Reply) (new : Held) (devices' : Devices)
-    → Acts history caller command reading devices reply new devices' → IsRecorded devices.signer history → IsRecorded devices'.signer new.history
-acts history caller command reading devices reply new devices' is recorded = elim is [
-  | inl memory ↦ as_history devices'.signer _ new.history memory.held.0 (as_same devices.signer devices'.signer history memory.signer recorded)
-  | inr other ↦ elim other [
-    | inl undrawn ↦ as_history devices'.signer _ new.history undrawn.held.0 (as_same devices.signer devices'.signer history undrawn.signer recorded)
-    | inr acted ↦ does history acted.answer devices.signer reply new devices'.signer
-        (may_follow history caller command reading acted.drawn acted.answer acted.answers) acted.does recorded
+  does : (history : List Entry) (answer : Answer) (reply : Reply) (new : Held) → MayFollow answer → Does answer history call reply new → IsRecorded signer history
+      → IsRecorded signer' new.history
+  does history (Say told) reply new may done recorded = uncalled history new.history done.2 done.1.0 recorded
+  does history (Write entry) reply new may done recorded = wrote history entry reply new done.1 done.0 recorded
+  does history (Send entry) reply new may done recorded = sent history entry reply new may done recorded
+  does history NeedDraw reply new may done recorded = absurd done
+
+  acts : (history : List Entry) (caller : Caller) (command : Command) (reading : ℕ) (draw : Option (Option Sixteen)) (reply : Reply) (new : Held)
+      → Acts history caller command reading draw call reply new → IsRecorded signer history → IsRecorded signer' new.history
+  acts history caller command reading draw reply new is recorded = elim is [
+    | inl memory ↦ uncalled history new.history memory.uncalled memory.held.0 recorded
+    | inr other ↦ elim other [
+      | inl undrawn ↦ uncalled history new.history undrawn.uncalled undrawn.held.0 recorded
+      | inr acted ↦ does history acted.answer reply new (may_follow history caller command reading acted.drawn acted.answer acted.answers) acted.does recorded
+    ]
   ]
-]
 
-asks : (history : List Entry) (old : Outside) (caller : Caller) (command : Command) (reply : Reply) (new : Held) (now : Outside)
-    → Asks history old caller command reply new now → IsRecorded old.devices.signer history → IsRecorded now.devices.signer new.history
-asks history old caller command reply new now is recorded = elim is [
-  | inl fails ↦ as_history now.devices.signer _ new.history fails.held.0
-      (as_same old.devices.signer now.devices.signer history (ap (λ (d : Devices). d.signer) fails.devices) recorded)
-  | inr read ↦ acts history caller command read.reading old.devices reply new now.devices read.acts recorded
-]
+module _ (signer signer' : SignerTold) (given : Given) (gives : GivesCall signer signer' given.call) where
+  asks : (history : List Entry) (caller : Caller) (command : Command) (reply : Reply) (new : Held) → Asks history caller command given reply new
+      → IsRecorded signer history → IsRecorded signer' new.history
+  asks history caller command reply new is recorded = elim is [
+    | inl fails ↦ uncalled signer signer' given.call gives history new.history (ap (λ (g : Given). g.call) fails.gave) fails.held.0 recorded
+    | inr read ↦ acts signer signer' given.call gives history caller command read.reading given.draw reply new read.acts recorded
+  ]
 
-goes : (history : List Entry) (old : Outside) (caller : Caller) (command : Command) (reply : Reply) (new : Held) (now : Outside)
-    → Goes history old caller command reply new now → IsRecorded old.devices.signer history → IsRecorded now.devices.signer new.history
-goes history old caller command reply new now is recorded = elim is [
-  | inl denies ↦ as_history now.devices.signer _ new.history denies.held.0
-      (as_same old.devices.signer now.devices.signer history (ap (λ (o : Outside). o.devices.signer) denies.same) recorded)
-  | inr allowed ↦ asks history old caller command reply new now allowed.1 recorded
-]
+  goes : (history : List Entry) (caller : Caller) (command : Command) (reply : Reply) (new : Held) → Goes history caller command given reply new
+      → IsRecorded signer history → IsRecorded signer' new.history
+  goes history caller command reply new is recorded = elim is [
+    | inl denies ↦ uncalled signer signer' given.call gives history new.history (ap (λ (g : Given). g.call) denies.gave) denies.held.0 recorded
+    | inr allowed ↦ asks history caller command reply new allowed.1 recorded
+  ]
 
-settled_recorded : (old : Held) (history : List Entry) (signer : SignerTold) → Settles old history → IsRecorded signer old.history → IsRecorded signer history
-settled_recorded old history signer settles recorded = elim settles [
-  | inl same ↦ as_history signer _ history same recorded
-  | inr more ↦ as_history signer _ history more (recorded_more signer old.history (option_to_list old.loose) recorded)
-]
+  settled_recorded : (old : Held) (history : List Entry) → Settles old history → IsRecorded signer old.history → IsRecorded signer history
+  settled_recorded old history settles recorded = elim settles [
+    | inl same ↦ as_history signer _ history same recorded
+    | inr more ↦ as_history signer _ history more (recorded_more signer old.history (option_to_list old.loose) recorded)
+  ]
+
+  move_recorded : (old : Held) (caller : Caller) (command : Command) (reply : Reply) (new : Held) → Moves old caller command given reply new
+      → IsRecorded signer old.history → IsRecorded signer' new.history
+  move_recorded old caller command reply new moves recorded = elim moves [
+    | inl fails ↦ uncalled signer signer' given.call gives old.history new.history (ap (λ (g : Given). g.call) fails.gave) (ap (λ (h : Held). h.history) fails.held) recorded
+    | inr settled ↦ goes settled.history caller command reply new settled.goes (settled_recorded old settled.history settled.settles recorded)
+  ]
 
 pub step_recorded : (old : State) (caller : Caller) (command : Command) (reply : Reply) (new : State) → Step old caller command reply new
-    → IsRecorded old.outside.devices.signer old.held.history → IsRecorded new.outside.devices.signer new.held.history
-step_recorded old caller command reply new step recorded = elim step.goes [
-  | inl fails ↦ as_history new.outside.devices.signer _ new.held.history (ap (λ (h : Held). h.history) fails.held)
-      (as_same old.outside.devices.signer new.outside.devices.signer old.held.history (ap (λ (o : Outside). o.devices.signer) fails.same) recorded)
-  | inr settled ↦ goes settled.history old.outside caller command reply new.held new.outside settled.goes
-      (settled_recorded old.held settled.history old.outside.devices.signer settled.settles recorded)
-]
+    → IsRecorded old.outside.signer old.held.history → IsRecorded new.outside.signer new.held.history
+step_recorded old caller command reply new step recorded =
+    move_recorded old.outside.signer new.outside.signer step.given step.gives.call old.held caller command reply new.held step.moves recorded

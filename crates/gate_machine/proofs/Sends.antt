@@ -21,18 +21,18 @@ use Rattle.gate_machine.proofs.Bodies.{serial_of_small, all_short}
 
 -- ---- an entry that is found came behind those before it
 
-record FoundAt (p : Entry → Bool) (before entries : List Entry) (entry : Entry) : Type 0 where
-  front : List Entry
-  rest : List Entry
-  split : entries ≡ front ++ entry ∷ rest
-  follows : Follows (before ++ front) entry
-  none : find p front ≡ None
-  holds : p entry ≡ true
+pub record FoundAt (p : Entry → Bool) (before entries : List Entry) (entry : Entry) : Type 0 where
+  pub front : List Entry
+  pub rest : List Entry
+  pub split : entries ≡ front ++ entry ∷ rest
+  pub follows : Follows (before ++ front) entry
+  pub none : find p front ≡ None
+  pub holds : p entry ≡ true
 
-some_is : {A : Type 0} (x y : A) → Some x ≡ Some y → x ≡ y
+pub some_is : {A : Type 0} (x y : A) → Some x ≡ Some y → x ≡ y
 some_is x y is = cc is
 
-none_some : {A : Type 0} {x : A} → None ≡ Some x → ⊥
+pub none_some : {A : Type 0} {x : A} → None ≡ Some x → ⊥
 none_some is = cc is
 
 module _ (p : Entry → Bool) where
@@ -60,7 +60,7 @@ module _ (p : Entry → Bool) where
         holds = found.holds;
       }
 
-  find_follows : (before entries : List Entry) (entry : Entry) → EachFollows before entries → find p entries ≡ Some entry → FoundAt p before entries entry
+  pub find_follows : (before entries : List Entry) (entry : Entry) → EachFollows before entries → find p entries ≡ Some entry → FoundAt p before entries entry
   find_follows before [] entry each is = absurd (none_some is)
   find_follows before (first ∷ entries) entry each is =
       at_first before first entries entry (p first) refl each is (λ found. find_follows (before ++ first ∷ []) entries entry each.1 found)
@@ -120,11 +120,11 @@ row_of number before caller moment (Signed order signature) sends row is = absur
 row_of number before caller moment (Blocked key spki) sends row is = absurd cc
 
 -- the row of an entry that is sent for the order
-send_row : (number : ℕ) (before : List Entry) (entry : Entry) → is_send_for number entry.what ≡ true → Follows before entry
+pub send_row : (number : ℕ) (before : List Entry) (entry : Entry) → is_send_for number entry.what ≡ true → Follows before entry
     → ComesToSigner before entry.caller number (body_in entry.what) × (length (body_in entry.what) < 2 ^ 16)
 send_row number before entry sends follows = row_of number before entry.caller entry.moment entry.what sends follows.row follows.spelled.what
 
-first_body : (number : ℕ) (before : List Entry) (order : Entry) (body : List ℕ) → IsBodyOf before number order body → sent_for number before ≡ None
+pub first_body : (number : ℕ) (before : List Entry) (order : Entry) (body : List ℕ) → IsBodyOf before number order body → sent_for number before ≡ None
     → IsNewBody before (targets_of order.what) body
 first_body number before order body is none = elim is [
   | inl again ↦ absurd (none_some (sym none ∙ again.stands))
@@ -150,7 +150,7 @@ find_has p [] i x at holds = absurd (none_some at)
 find_has p (first ∷ items) zero x at holds = (x, rw (some_is first x at, holds) refl)
 find_has p (first ∷ items) (suc i) x at holds = either p first (p first) refl items (find_has p items i x at holds)
 
-found_before : {A : Type 0} (p : A → Bool) (front rest : List A) (y : A) → find p front ≡ Some y → find p (front ++ rest) ≡ Some y
+pub found_before : {A : Type 0} (p : A → Bool) (front rest : List A) (y : A) → find p front ≡ Some y → find p (front ++ rest) ≡ Some y
 found_before p front rest y is = find-append p front rest ∙ ap (λ (o : Option _). option_or o (find p rest)) is
 
 signed_row : (number : ℕ) (before : List Entry) (caller : List ℕ) (moment : Moment) (what : What) → is_signed_for number what ≡ true
@@ -183,7 +183,7 @@ signed_was_sent number history signed each stands =
 
 -- ---- the order's one body
 
-found_at : (p : Entry → Bool) (front rest : List Entry) (entry : Entry) → find p front ≡ None → p entry ≡ true → find p (front ++ entry ∷ rest) ≡ Some entry
+pub found_at : (p : Entry → Bool) (front rest : List Entry) (entry : Entry) → find p front ≡ None → p entry ≡ true → find p (front ++ entry ∷ rest) ≡ Some entry
 found_at p front rest entry none holds = find-append p front (entry ∷ rest) ∙ rw (none, holds) refl
 
 -- each body that was sent for an order is the first one

@@ -25,7 +25,7 @@ HasBadKey key = IsFalse (is_key key)
 
 -- ---- the names and the days of an order
 
--- no name, or more than 100
+-- no name, or more than 100, which is this project's own limit
 abbrev pub HasBadCount : List Target → Type 0
 HasBadCount targets = (targets ≡ []) ⊎ (100 < length targets)
 

@@ -168,7 +168,7 @@ abbrev pub sent_by : What → List (List ℕ)
 sent_by (Send order body) = body ∷ []
 sent_by what = []
 
--- the one list comes from the other by leaving items out
+-- the one list is a subsequence of the other
 abbrev pub Within : List (List ℕ) → List (List ℕ) → Type 0
 Within [] all = Unit {0}
 Within (body ∷ bodies) [] = ⊥

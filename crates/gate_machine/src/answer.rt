@@ -126,7 +126,8 @@ fn kept_reply(kept: &Entry, entry: &Entry) -> Reply
 
 /// The reply to what was written under a key.
 pub fn written_reply(entry: &Entry) -> Reply
-    ensures { result ≡ reply_of entry.now }
+    ensures reply { result ≡ reply_of entry.now }
+    ensures may { result ≢ Reply.DiskFault }
 {
     let number = entry.number;
     match &entry.what {

@@ -1,12 +1,16 @@
-//! What holds of all histories, for the proofs above.
-ghost use Rattle.std.specs.Prelude.{◌≡◌, ℕ, ◌+◌, List, [], ◌∷◌, ◌++◌, true, false};
+//! What holds of all histories, moves and steps, for the proofs above.
+ghost use Rattle.std.specs.Prelude.{◌≡◌, ◌≢◌, ℕ, ◌+◌, ◌≤◌, List, [], ◌∷◌, ◌++◌, None, true};
+ghost use Rattle.plant.specs.Causes.{Rose};
 ghost use Rattle.gate_entries.specs.declared.entry.Entry.{Entry as EntryValue};
 ghost use Rattle.gate_entries.specs.declared.caller.Caller.{Caller as CallerValue};
 ghost use Rattle.gate_entries.specs.declared.command.Command.{Command as CommandValue};
 ghost use Rattle.gate_entries.specs.declared.reply.Reply.{Reply as ReplyValue};
+ghost use Rattle.gate_entries.specs.declared.reply.Reply.TheVariants as replies;
 ghost use Rattle.gate_entries.specs.Spelling.{IsEntry};
-ghost use Rattle.gate_machine.specs.Step.{Held as HeldValue, Devices as DevicesValue, State as StateValue, Acts, Step, is_before_reading, IsRecorded};
+ghost use Rattle.gate_machine.specs.Move.{Held as HeldValue, Given as GivenValue, IsSound, Extends, HasFaults, Goes, Moves};
+ghost use Rattle.gate_machine.specs.Step.{State as StateValue, Item as ItemValue, Handles, Steps, Counted, IsRecorded};
 ghost use Rattle.gate_machine.specs.Sends.{is_send_for, order_in, body_in, signed_entry, IsGoodBody, HasOneBodyEach};
+ghost use Rattle.gate_machine.specs.Serials.{HasOneOrderEach};
 ghost use Rattle.gate_machine.specs.History.{IsSignature, record_size, journal_size, Follows, EachFollows, Legal};
 
 /// A history with one entry more.
@@ -17,16 +21,38 @@ pub fn one_entry_more()
     ensures none { journal_size [] ≡ 16 }
 {}
 
-/// What follows a reading tells neither a clock that failed nor another journal.
-pub fn what_follows_a_reading()
-    ensures { (history : List EntryValue) (caller : CallerValue) (command : CommandValue) (reading : ℕ) (devices : DevicesValue) (reply : ReplyValue)
-        (new : HeldValue) (devices' : DevicesValue) → Acts history caller command reading devices reply new devices' → is_before_reading reply ≡ false }
+/// A move extends the history and keeps it legal; each fault that it tells was given, and nothing becomes loose without a fault of
+/// the disk. Another journal is told only where an entry was loose.
+pub fn what_a_move_keeps()
+    ensures extends { (old : HeldValue) (caller : CallerValue) (command : CommandValue) (given : GivenValue) (reply : ReplyValue) (new : HeldValue) →
+        Moves old caller command given reply new → Extends old.history new.history }
+    ensures sound { (old : HeldValue) (caller : CallerValue) (command : CommandValue) (given : GivenValue) (reply : ReplyValue) (new : HeldValue) →
+        Moves old caller command given reply new → IsSound old → IsSound new }
+    ensures faults { (old : HeldValue) (caller : CallerValue) (command : CommandValue) (given : GivenValue) (reply : ReplyValue) (new : HeldValue) →
+        Moves old caller command given reply new → HasFaults given reply }
+    ensures settled { (old : HeldValue) (caller : CallerValue) (command : CommandValue) (given : GivenValue) (reply : ReplyValue) (new : HeldValue) →
+        Moves old caller command given reply new → reply ≢ replies.DiskFault → old.loose ≡ None → new.loose ≡ None }
+    ensures native { (history : List EntryValue) (caller : CallerValue) (command : CommandValue) (given : GivenValue) (reply : ReplyValue) (new : HeldValue) →
+        Goes history caller command given reply new → (at : ℕ) → reply ≢ replies.JournalBad at }
 {}
 
-/// After a step each body that the signer was sent has an entry of its own, where it had before.
-pub fn what_was_sent_is_recorded()
-    ensures { (old : StateValue) (caller : CallerValue) (command : CommandValue) (reply : ReplyValue) (new : StateValue) →
-        Step old caller command reply new → IsRecorded old.outside.devices.signer old.held.history → IsRecorded new.outside.devices.signer new.held.history }
+/// Steps extend the history and keep it legal, what was sent stays recorded, each object's count of faults rose by as many as were
+/// told, and nothing becomes loose without a fault of the disk.
+pub fn what_steps_keep()
+    ensures more { (old mid new : StateValue) (items : List ItemValue) (item : ItemValue) → Steps old items mid → Handles mid item new
+        → Steps old (items ++ item ∷ []) new }
+    ensures extends { (old : StateValue) (items : List ItemValue) (new : StateValue) → Steps old items new → Extends old.held.history new.held.history }
+    ensures sound { (old : StateValue) (items : List ItemValue) (new : StateValue) → Steps old items new → IsSound old.held → IsSound new.held }
+    ensures recorded { (old : StateValue) (items : List ItemValue) (new : StateValue) → Steps old items new
+        → IsRecorded old.outside.signer old.held.history → IsRecorded new.outside.signer new.held.history }
+    ensures counted { (old : StateValue) (items : List ItemValue) (new : StateValue) → Steps old items new → Counted old items new }
+    ensures settled { (old : StateValue) (items : List ItemValue) (new : StateValue) → Steps old items new → old.held.loose ≡ None
+        → (Rose old.disk_faults new.disk_faults → ⊥) → new.held.loose ≡ None }
+{}
+
+/// Two bodies with the same serial number were sent for the same order.
+pub fn a_serial_number_has_one_order()
+    ensures { (history : List EntryValue) → EachFollows [] history → HasOneOrderEach history }
 {}
 
 /// All bodies that were sent for an order are its one body, the first that was sent.

@@ -1,4 +1,4 @@
-//! What every gate is held to: which histories are legal, how a command is answered over one, and what a step does.
+//! What every gate is held to: which histories are legal, how a command is answered over one, what one message moves, and what steps keep.
 //! Beside the definitions stand the plain functions that compute them over a whole list.
 #![tactic(auto)]
 
@@ -14,8 +14,8 @@ mod sending;
 pub use answer::{Answer, answer_command, written_reply};
 pub use following::{find_kept, follows, last_moment};
 pub use law::{
-    a_body_has_a_serial_number, a_signature_follows, an_order_has_one_body, one_entry_more,
-    what_follows_a_reading, what_was_sent_is_recorded,
+    a_body_has_a_serial_number, a_serial_number_has_one_order, a_signature_follows,
+    an_order_has_one_body, one_entry_more, what_a_move_keeps, what_steps_keep,
 };
 pub use request::key_of;
 pub use rules::broken_rule;

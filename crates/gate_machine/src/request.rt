@@ -108,7 +108,7 @@ fn key_in(alloc: Global, request: &[u8]) -> Result<&[u8], NoMemory>
     }
 }
 
-/// A fault that breaks no rule is want of memory.
+/// A fault that breaks no rule is out of memory.
 fn want_of_memory(fault: CsrFault) -> NoMemory
     requires { spec.rule_of fault ≡ None }
 {

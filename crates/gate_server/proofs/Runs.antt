@@ -1,5 +1,5 @@
 -- What a start and its messages make of a session.
-use Rattle.std.proofs.Common.{◌≡◌, ◌≤◌, inl, inr, None, refl, sym, ap, ◌∙◌, subst, arith}
+use Rattle.std.proofs.Common.{◌≡◌, ℕ, ◌≤◌, inl, inr, List, [], ◌∷◌, ◌++◌, length, None, refl, sym, subst, append-nil, arith}
 use Rattle.std.specs.Option.{ForSome}
 use Rattle.plant.specs.Causes.{Rose}
 use Rattle.plant.specs.Plant.{PlantTold, LeavesSigner}
@@ -9,15 +9,16 @@ use Rattle.plant.specs.Stream.{SourceTold, SinkTold}
 use Rattle.journal_core.specs.Journal.{StandsFor}
 use Rattle.gate_machine.specs.History.{Legal}
 use Rattle.gate_machine.specs.Sends.{HasOneBodyEach}
-use Rattle.gate_machine.specs.Step.{Held, SignerTold, State, IsRecorded, signer_of}
+use Rattle.gate_machine.specs.Serials.{HasOneOrderEach}
+use Rattle.gate_machine.specs.Move.{Held, Extends}
+use Rattle.gate_machine.specs.Step.{SignerTold, State, Item, Handles, Steps, Counted, IsRecorded, signer_of}
 use Rattle.gate_engine.specs.declared.fault.StartFault.{StartFault}
 use Rattle.gate_engine.specs.declared.fault.StartFault.TheVariants as starts
-use Rattle.gate_engine.specs.Engine.{payloads_of, StandsForPlant, RefusesStart}
+use Rattle.gate_engine.specs.Engine.{payloads_of, StandsForPlant, RefusesStart, state_of}
 use Rattle.gate_server.specs.declared.status.Status.{Status}
 use Rattle.gate_server.specs.declared.status.Status.TheVariants as statuses
-use Rattle.gate_server.specs.Session.{acme, Talk, talk_of, begun, Rests, BreaksOff, Ends, Ended}
+use Rattle.gate_server.specs.Session.{Talk, talk_of, begun, Rests, BreaksOff, Ends, Ended}
 use Rattle.gate_server.specs.Run.{outside_of, IsStartStatus, HoldsSession}
-use Rattle.gate_server.proofs.Steps.{step_settled, steps_later, steps_settled, rose_before, rose_behind}
 
 pub refused_of : (plant plant' : PlantTold) (clock : ClockTold) (entropy : EntropyTold) (source : SourceTold) (sink : SinkTold) (fault : StartFault) (status : Status)
     → IsStartStatus fault status → ForSome plant.bytes (λ bytes. RefusesStart fault bytes)
@@ -37,89 +38,90 @@ refused_of plant plant' clock entropy source sink fault status told refused caus
       sink = refl;
     })
 
--- nothing was loose, and the disk's count didn't rise: nothing is loose
-rests_settled : (old new : Talk) → Rests old new → old.state.held.loose ≡ None → new.state.held.loose ≡ None
-rests_settled old new rests none = ap (λ (s : State). s.held.loose) rests.state ∙ none
+-- the items that were answered, and at most one whose text was not put whole
+record AllSteps (old new : State) (items : List Item) : Type 0 where
+  broken : List Item
+  one_at_most : length broken ≤ 1
+  steps : Steps old (items ++ broken) new
 
-rests_later : (old new : Talk) → Rests old new → old.state.disk_faults ≤ new.state.disk_faults
-rests_later old new rests = omega (arith, ap (λ (s : State). s.disk_faults) rests.state)
+module _ (steps_more : (old mid new : State) (items : List Item) (item : Item) → Steps old items mid → Handles mid item new → Steps old (items ++ item ∷ []) new) where
+  all_rest : (old : State) (last new : Talk) (items : List Item) → Steps old items last.state → Rests last new → AllSteps old new.state items
+  all_rest old last new items steps rests = record {
+    broken = [];
+    one_at_most = omega arith;
+    steps = subst (λ (s : State). Steps old (items ++ []) s) (sym rests.state) (subst (λ (l : List Item). Steps old l last.state) (sym (append-nil items)) steps);
+  }
 
-breaks_settled : (old new : Talk) → BreaksOff old new → old.state.held.loose ≡ None → (Rose old.state.disk_faults new.state.disk_faults → ⊥)
-    → new.state.held.loose ≡ None
-breaks_settled old new off none same = step_settled old.state new.state acme off.command off.reply off.exchanges.step none same
+  all_break : (old : State) (last new : Talk) (items : List Item) → Steps old items last.state → BreaksOff last new → AllSteps old new.state items
+  all_break old last new items steps off = record {
+    broken = off.item ∷ [];
+    one_at_most = omega arith;
+    steps = steps_more old last.state new.state items off.item steps off.exchanges.handles;
+  }
 
-ends_settled : (status : Status) (old new : Talk) → Ends status old new → old.state.held.loose ≡ None → (Rose old.state.disk_faults new.state.disk_faults → ⊥)
-    → new.state.held.loose ≡ None
-ends_settled statuses.Ok old new ends none same = rests_settled old new ends.0 none
-ends_settled statuses.NotBuilt old new ends none same = rests_settled old new ends.0 none
-ends_settled (statuses.ReadFault settings) old new ends none same = rests_settled old new ends.1 none
-ends_settled statuses.StreamLong old new ends none same = rests_settled old new ends.0 none
-ends_settled statuses.WriteFault old new ends none same = breaks_settled old new ends.0 none same
-ends_settled statuses.NoMemory old new ends none same = elim ends [
-  | inl rests ↦ rests_settled old new rests none
-  | inr off ↦ breaks_settled old new off none same
-]
-ends_settled statuses.Usage old new ends none same = absurd ends
-ends_settled statuses.NotBegun old new ends none same = absurd ends
-ends_settled (statuses.NotEmpty count) old new ends none same = absurd ends
-ends_settled (statuses.JournalBad at) old new ends none same = absurd ends
-ends_settled statuses.DiskFault old new ends none same = absurd ends
-ends_settled statuses.ClockFault old new ends none same = absurd ends
-ends_settled (statuses.ClockRange reading) old new ends none same = absurd ends
+  all_steps : (status : Status) (old : State) (last new : Talk) (items : List Item) → Steps old items last.state → Ends status last new → AllSteps old new.state items
+  all_steps statuses.Ok old last new items steps ends = all_rest old last new items steps ends.0
+  all_steps statuses.NotBuilt old last new items steps ends = all_rest old last new items steps ends.0
+  all_steps (statuses.ReadFault settings) old last new items steps ends = all_rest old last new items steps ends.1
+  all_steps statuses.StreamLong old last new items steps ends = all_rest old last new items steps ends.0
+  all_steps statuses.WriteFault old last new items steps ends = all_break old last new items steps ends.0
+  all_steps statuses.NoMemory old last new items steps ends = elim ends [
+    | inl rests ↦ all_rest old last new items steps rests
+    | inr off ↦ all_break old last new items steps off
+  ]
+  all_steps statuses.Usage old last new items steps ends = absurd ends
+  all_steps statuses.NotBegun old last new items steps ends = absurd ends
+  all_steps (statuses.NotEmpty count) old last new items steps ends = absurd ends
+  all_steps (statuses.JournalBad at) old last new items steps ends = absurd ends
+  all_steps statuses.DiskFault old last new items steps ends = absurd ends
+  all_steps statuses.ClockFault old last new items steps ends = absurd ends
+  all_steps (statuses.ClockRange reading) old last new items steps ends = absurd ends
 
-ends_later : (status : Status) (old new : Talk) → Ends status old new → old.state.disk_faults ≤ new.state.disk_faults
-ends_later statuses.Ok old new ends = rests_later old new ends.0
-ends_later statuses.NotBuilt old new ends = rests_later old new ends.0
-ends_later (statuses.ReadFault settings) old new ends = rests_later old new ends.1
-ends_later statuses.StreamLong old new ends = rests_later old new ends.0
-ends_later statuses.WriteFault old new ends = ends.0.exchanges.step.later
-ends_later statuses.NoMemory old new ends = elim ends [
-  | inl rests ↦ rests_later old new rests
-  | inr off ↦ off.exchanges.step.later
-]
-ends_later statuses.Usage old new ends = absurd ends
-ends_later statuses.NotBegun old new ends = absurd ends
-ends_later (statuses.NotEmpty count) old new ends = absurd ends
-ends_later (statuses.JournalBad at) old new ends = absurd ends
-ends_later statuses.DiskFault old new ends = absurd ends
-ends_later statuses.ClockFault old new ends = absurd ends
-ends_later (statuses.ClockRange reading) old new ends = absurd ends
-
-ended_settled : (status : Status) (old : Talk) (held : Held) (plant : PlantTold) (clock : ClockTold) (entropy : EntropyTold) (source : SourceTold) (sink : SinkTold)
-    → Ended status old held plant clock entropy source sink → old.state.held.loose ≡ None → (Rose old.state.disk_faults plant.disk_faults → ⊥) → held.loose ≡ None
-ended_settled status old held plant clock entropy source sink ended none same =
-    let last = ended.last in
-    let new = talk_of held plant clock entropy ended.stream source sink in
-    let first = steps_later old.state last.state acme ended.talked.commands ended.talked.replies ended.talked.steps in
-    let then = ends_later status last new ended.ends in
-    let settled = steps_settled old.state last.state acme ended.talked.commands ended.talked.replies ended.talked.steps none
-    (λ rose. same (rose_before _ _ _ then rose)) in
-    ends_settled status last new ended.ends settled (λ rose. same (rose_behind _ _ _ first rose))
+rose_behind : (a b c : ℕ) → a ≤ b → Rose b c → Rose a c
+rose_behind a b c le rose = omega (arith, le, rose)
 
 -- the bodies that were sent before are those that were sent when the journal was mounted
 signer_mounted : (plant mounted : PlantTold) → LeavesSigner plant mounted → signer_of mounted ≡ signer_of plant
 signer_mounted plant mounted same = rw (same.sent, same.answers, same.signer_faults) refl
 
-pub session_of : (plant mounted plant' : PlantTold) (clock clock' : ClockTold) (entropy entropy' : EntropyTold) (source source' : SourceTold) (sink sink' : SinkTold)
-    (status : Status) (before after : Held) → before.loose ≡ None → Legal before.history → StandsForPlant before mounted → mounted.bytes ≡ plant.bytes
-    → plant.disk_faults ≤ mounted.disk_faults → LeavesSigner plant mounted
-    → Ended status (talk_of before mounted clock entropy begun source sink) after plant' clock' entropy' source' sink' → StandsForPlant after plant'
-    → (IsRecorded (signer_of mounted) before.history → IsRecorded (signer_of plant') after.history) → HasOneBodyEach after.history
-    → HoldsSession (outside_of plant clock entropy source sink) (outside_of plant' clock' entropy' source' sink') status
-session_of plant mounted plant' clock clock' entropy entropy' source source' sink sink' status before after settled legal stood bytes later signer ended stands recorded one =
-    inr (record {
-      before = before;
-      settled = settled;
-      legal = legal;
-      stood = subst (λ b. StandsFor (payloads_of before.history) b) bytes (stood settled);
-      mounted = mounted;
-      later = later;
-      signer = signer;
-      after = after;
-      ended = ended;
-      stands = stands;
-      recorded = λ before_recorded. recorded (subst (λ (s : SignerTold). IsRecorded s before.history) (sym (signer_mounted plant mounted signer)) before_recorded);
-      one_body = one;
-      kept = λ same. stands (ended_settled status (talk_of before mounted clock entropy begun source sink) after plant' clock' entropy' source' sink' ended settled
-          (λ rose. same (rose_behind _ _ _ later rose)));
-    })
+module _ (steps_more : (old mid new : State) (items : List Item) (item : Item) → Steps old items mid → Handles mid item new → Steps old (items ++ item ∷ []) new)
+    (steps_extend : (old : State) (items : List Item) (new : State) → Steps old items new → Extends old.held.history new.held.history)
+    (steps_recorded : (old : State) (items : List Item) (new : State) → Steps old items new → IsRecorded old.outside.signer old.held.history
+    → IsRecorded new.outside.signer new.held.history)
+    (steps_counted : (old : State) (items : List Item) (new : State) → Steps old items new → Counted old items new)
+    (steps_settled : (old : State) (items : List Item) (new : State) → Steps old items new → old.held.loose ≡ None → (Rose old.disk_faults new.disk_faults → ⊥)
+    → new.held.loose ≡ None) where
+  pub session_of : (plant mounted plant' : PlantTold) (clock clock' : ClockTold) (entropy entropy' : EntropyTold) (source source' : SourceTold) (sink sink' : SinkTold)
+      (status : Status) (before after : Held) → before.loose ≡ None → Legal before.history → StandsForPlant before mounted → mounted.bytes ≡ plant.bytes
+      → plant.disk_faults ≤ mounted.disk_faults → LeavesSigner plant mounted
+      → Ended status (talk_of before mounted clock entropy begun source sink) after plant' clock' entropy' source' sink' → StandsForPlant after plant'
+      → Legal after.history → HasOneBodyEach after.history → HasOneOrderEach after.history
+      → HoldsSession (outside_of plant clock entropy source sink) (outside_of plant' clock' entropy' source' sink') status
+  session_of plant mounted plant' clock clock' entropy entropy' source source' sink sink' status before after settled legal stood bytes later signer ended stands legal_after one_body one_order =
+      let first = state_of before mounted clock entropy in
+      let last = state_of after plant' clock' entropy' in
+      let all = all_steps steps_more status first ended.last (talk_of after plant' clock' entropy' ended.stream source' sink') ended.talked.items ended.talked.steps ended.ends in
+      let items = ended.talked.items ++ all.broken in
+      inr (record {
+        before = before;
+        settled = settled;
+        legal = legal;
+        stood = subst (λ b. StandsFor (payloads_of before.history) b) bytes (stood settled);
+        mounted = mounted;
+        later = later;
+        signer = signer;
+        after = after;
+        ended = ended;
+        broken = all.broken;
+        one_at_most = all.one_at_most;
+        steps = all.steps;
+        legal_after = legal_after;
+        extends = steps_extend first items last all.steps;
+        counted = steps_counted first items last all.steps;
+        recorded = λ was. steps_recorded first items last all.steps
+            (subst (λ (s : SignerTold). IsRecorded s before.history) (sym (signer_mounted plant mounted signer)) was);
+        one_body = one_body;
+        one_order = one_order;
+        stands = stands;
+        kept = λ same. stands (steps_settled first items last all.steps settled (λ rose. same (rose_behind _ _ _ later rose)));
+      })

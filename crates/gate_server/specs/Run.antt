@@ -1,5 +1,5 @@
 -- What a run does, by its words.
-use Rattle.std.specs.Prelude.{◌≡◌, ◌≢◌, ℕ, ◌≤◌, ◌⊎◌, List, [], ◌∷◌, length, codes, Some, None, true, IfSome}
+use Rattle.std.specs.Prelude.{◌≡◌, ◌≢◌, ℕ, ◌≤◌, ◌⊎◌, List, [], ◌∷◌, ◌++◌, length, codes, Some, None, true, IfSome}
 use Rattle.std.specs.Option.{ForSome, option_map}
 use Rattle.std.specs.Io.KnownBytes.{IsAtEnd}
 use Rattle.plant.specs.Causes.{Rose}
@@ -11,10 +11,12 @@ use Rattle.journal_core.specs.Journal.{StandsFor, journal_of}
 use Rattle.gate_machine.specs.History.{Legal}
 use Rattle.gate_machine.specs.Answer.{IsInRange, IsOutOfRange}
 use Rattle.gate_machine.specs.Sends.{HasOneBodyEach}
-use Rattle.gate_machine.specs.Step.{Held, IsRecorded, signer_of}
+use Rattle.gate_machine.specs.Serials.{HasOneOrderEach}
+use Rattle.gate_machine.specs.Move.{Held, Extends}
+use Rattle.gate_machine.specs.Step.{Item, Steps, Counted, IsRecorded, signer_of}
 use Rattle.gate_engine.specs.declared.fault.StartFault.{StartFault}
 use Rattle.gate_engine.specs.declared.fault.StartFault.TheVariants as starts
-use Rattle.gate_engine.specs.Engine.{payloads_of, first_history, StandsForPlant, RefusesStart}
+use Rattle.gate_engine.specs.Engine.{payloads_of, first_history, StandsForPlant, RefusesStart, state_of}
 use Rattle.gate_server.specs.declared.running.Word.{Word}
 use Rattle.gate_server.specs.declared.running.Word.TheVariants as asked
 use Rattle.gate_server.specs.declared.status.Status.{Status}
@@ -72,14 +74,25 @@ pub record Session (old new : Outside) (status : Status) : Type 0 where
   pub stood : StandsFor (payloads_of before.history) old.plant.bytes
   pub mounted : PlantTold
   pub later : old.plant.disk_faults ≤ mounted.disk_faults
-  pub after : Held
   pub signer : LeavesSigner old.plant mounted
+  pub after : Held
   pub ended : Ended status (talk_of before mounted old.clock old.entropy begun old.source old.sink) after new.plant new.clock new.entropy new.source new.sink
-  pub stands : StandsForPlant after new.plant
+  -- the last item, where its text was not put whole
+  pub broken : List Item
+  pub one_at_most : length broken ≤ 1
+  -- all items, one after another, lead from the first history to the last
+  pub steps : Steps (state_of before mounted old.clock old.entropy) (ended.talked.items ++ broken) (state_of after new.plant new.clock new.entropy)
+  pub legal_after : Legal after.history
+  pub extends : Extends before.history after.history
+  -- a fault of an object is told at most as many times as its count rose
+  pub counted : Counted (state_of before mounted old.clock old.entropy) (ended.talked.items ++ broken) (state_of after new.plant new.clock new.entropy)
   -- each body that the signer was sent has an entry of its own, in order, where it had before
   pub recorded : IsRecorded (signer_of old.plant) before.history → IsRecorded (signer_of new.plant) after.history
   -- all bodies that were sent for an order are the same
   pub one_body : HasOneBodyEach after.history
+  -- two bodies with the same serial number were sent for the same order
+  pub one_order : HasOneOrderEach after.history
+  pub stands : StandsForPlant after new.plant
   pub kept : (Rose old.plant.disk_faults new.plant.disk_faults → ⊥) → StandsFor (payloads_of after.history) new.plant.bytes
 
 abbrev pub HoldsSession : Outside → Outside → Status → Type 0

@@ -1,18 +1,17 @@
 -- A session: messages that are taken, asked and answered, one after another, and how it ends.
-use Rattle.std.specs.Prelude.{◌≡◌, ℕ, ◌≤◌, ◌⊎◌, List, [], ◌∷◌, ◌++◌, length, codes, sum_by, false, Result, Ok, Err, IfSome}
+use Rattle.std.specs.Prelude.{◌≡◌, ℕ, ◌≤◌, ◌⊎◌, List, [], ◌∷◌, ◌++◌, length, codes, false, Result, Ok, Err, IfSome}
 use Rattle.std.specs.List.{flat_map}
 use Rattle.std.specs.Io.KnownBytes.{Appends, IsAtEnd}
 use Rattle.gate_base.specs.declared.profile.Role.TheVariants.{Account}
-use Rattle.plant.specs.Causes.{Rose, RoseBy}
+use Rattle.plant.specs.Causes.{Rose}
 use Rattle.plant.specs.Plant.{PlantTold}
 use Rattle.plant.specs.Clock.{ClockTold}
 use Rattle.plant.specs.Entropy.{EntropyTold}
 use Rattle.plant.specs.Stream.{SourceTold, SinkTold, AppendsFront}
 use Rattle.gate_entries.specs.declared.caller.Caller.{Caller}
-use Rattle.gate_entries.specs.declared.command.Command.{Command}
-use Rattle.gate_entries.specs.declared.reply.Reply.{Reply}
-use Rattle.gate_entries.specs.declared.reply.Reply.TheVariants.{ClockFault, DiskFault}
-use Rattle.gate_machine.specs.Step.{Held, State, Step, Steps}
+use Rattle.gate_machine.specs.Move.{Held}
+use Rattle.gate_machine.specs.Step.{State, Item, Handles, Steps}
+use Rattle.gate_machine.specs.Step.Item.{Exchange, Refusal}
 use Rattle.gate_engine.specs.Engine.{state_of}
 use Rattle.wire_front.specs.Message.{IsMessageOf, HasNoMessage}
 use Rattle.wire_front.specs.Reply.{text_of}
@@ -28,15 +27,25 @@ acme = record { id = codes "acme"; role = Account }
 abbrev pub joined : List (List ℕ) → List ℕ
 joined messages = flat_map (λ message. message) messages
 
--- each message asks its command
-abbrev pub Ask : List (List ℕ) → List Command → Type 0
-Ask [] [] = Unit {0}
-Ask [] (command ∷ commands) = ⊥
-Ask (message ∷ messages) [] = ⊥
-Ask (message ∷ messages) (command ∷ commands) = IsMessageOf message command × Ask messages commands
+-- what a message makes: its command is asked by the one account. Nothing is refused so far.
+abbrev pub Makes : List ℕ → Item → Type 0
+Makes message (Exchange asked) = IsMessageOf message asked.command × (asked.caller ≡ acme)
+Makes message (Refusal text) = ⊥
 
-abbrev pub texts_of : List Reply → List ℕ
-texts_of replies = flat_map text_of replies
+-- each message makes its item
+abbrev pub Make : List (List ℕ) → List Item → Type 0
+Make [] [] = Unit {0}
+Make [] (item ∷ items) = ⊥
+Make (message ∷ messages) [] = ⊥
+Make (message ∷ messages) (item ∷ items) = Makes message item × Make messages items
+
+-- an item's text: of its reply, or of the refusal
+abbrev pub item_text : Item → List ℕ
+item_text (Exchange asked) = text_of asked.reply
+item_text (Refusal text) = text
+
+abbrev pub texts_of : List Item → List ℕ
+texts_of items = flat_map item_text items
 
 -- the gate, the bytes that are held, the source and the sink
 pub record Talk : Type 0 where
@@ -53,27 +62,25 @@ talk_of held plant clock entropy stream source sink =
 abbrev pub begun : StreamState
 begun = record { held = []; taken = 0 }
 
--- one message was taken, and its command was asked
-pub record Exchanges (old new : Talk) (command : Command) (reply : Reply) : Type 0 where
+-- one message was taken, and what it makes was handled
+pub record Exchanges (old new : Talk) (item : Item) : Type 0 where
   pub message : List ℕ
-  pub asks : IsMessageOf message command
+  pub makes : Makes message item
   pub some : 1 ≤ length message
   pub passes : Passes old.stream old.source new.stream new.source message
-  pub step : Step old.state acme command reply new.state
+  pub handles : Handles old.state item new.state
 
--- its reply was put
+-- its text was put
 pub record Answers (old new : Talk) : Type 0 where
-  pub command : Command
-  pub reply : Reply
-  pub exchanges : Exchanges old new command reply
-  pub puts : Appends old.sink.held new.sink.held (text_of reply)
+  pub item : Item
+  pub exchanges : Exchanges old new item
+  pub puts : Appends old.sink.held new.sink.held (item_text item)
 
--- its reply, or an end of it, is lost
+-- its text, or an end of it, is lost
 pub record BreaksOff (old new : Talk) : Type 0 where
-  pub command : Command
-  pub reply : Reply
-  pub exchanges : Exchanges old new command reply
-  pub puts : AppendsFront old.sink.held new.sink.held (text_of reply)
+  pub item : Item
+  pub exchanges : Exchanges old new item
+  pub puts : AppendsFront old.sink.held new.sink.held (item_text item)
 
 -- no message was taken, and nothing was asked
 pub record Rests (old new : Talk) : Type 0 where
@@ -106,28 +113,16 @@ abbrev pub Turns : Result (Unit {0}) Status → Talk → Talk → Type 0
 Turns (Ok done) old new = Answers old new
 Turns (Err status) old new = Ends status old new
 
--- 1 for a reply that tells a fault of the disk, of the clock
-abbrev pub tells_disk : Reply → ℕ
-tells_disk DiskFault = 1
-tells_disk reply = 0
-
-abbrev pub tells_clock : Reply → ℕ
-tells_clock ClockFault = 1
-tells_clock reply = 0
-
--- messages that were asked and answered, in order; each count rose by as many as its faults were told, at least
+-- messages whose items were handled and answered, in order
 pub record Talked (old new : Talk) : Type 0 where
   pub messages : List (List ℕ)
-  pub commands : List Command
-  pub ask : Ask messages commands
-  pub replies : List Reply
-  pub steps : Steps old.state acme commands replies new.state
+  pub items : List Item
+  pub make : Make messages items
+  pub steps : Steps old.state items new.state
   pub passes : Passes old.stream old.source new.stream new.source (joined messages)
-  pub puts : Appends old.sink.held new.sink.held (texts_of replies)
+  pub puts : Appends old.sink.held new.sink.held (texts_of items)
   pub read_later : old.source.faults ≤ new.source.faults
   pub put_later : old.sink.faults ≤ new.sink.faults
-  pub disk_told : RoseBy (sum_by tells_disk replies) old.state.disk_faults new.state.disk_faults
-  pub clock_told : RoseBy (sum_by tells_clock replies) old.state.outside.clock.faults new.state.outside.clock.faults
 
 -- the messages, and how they ended; the bytes that are held at the end are no longer told
 pub record Ended (status : Status) (old : Talk) (held : Held) (plant : PlantTold) (clock : ClockTold) (entropy : EntropyTold) (source : SourceTold) (sink : SinkTold) : Type 0 where

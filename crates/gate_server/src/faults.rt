@@ -30,21 +30,17 @@ const TOO_LATE: &[u8] =
     b"HTTP/1.1 503 Service Unavailable\r\ncontent-type: application/json\r\ncontent-length: 44\r\n\r\n\
     {\"reading\":4102444800,\"reply\":\"clock_range\"}";
 
-/// The number of the call of each object that fails, from 1 on; 0 is none.
+/// The number of the call of one object that fails, from 1 on.
 #[derive(Clone, Copy)]
-struct Failing {
-    disk: u64,
-    settings: u64,
-    take: u64,
-    put: u64,
+enum Failing {
+    Nothing,
+    Disk(u64),
+    Settings(u64),
+    Take(u64),
+    Put(u64),
 }
 
-const SOUND: Failing = Failing {
-    disk: 0,
-    settings: 0,
-    take: 0,
-    put: 0,
-};
+use Failing::{Disk, Nothing, Put, Settings, Take};
 
 /// All that the program reads and writes in both of its runs.
 #[derive(Drop)]
@@ -80,14 +76,22 @@ fn failing_outside(
     failing: Failing,
     readings: &[Option<u64>],
 ) -> Outside {
+    // 0 is no call
+    let (disk, settings, take, put) = match failing {
+        Nothing => (0, 0, 0, 0),
+        Disk(call) => (call, 0, 0, 0),
+        Settings(call) => (0, call, 0, 0),
+        Take(call) => (0, 0, call, 0),
+        Put(call) => (0, 0, 0, call),
+    };
     let readings = Sequence::from_slice(alloc, readings).expect(rt, "memory");
     let messages = Bytes::from_vec(joined(rt, alloc, ORDER, ORDER));
     Outside {
-        settings: MemorySource::new(Bytes::new(alloc), one_call(rt, alloc, failing.settings)),
-        plant: failing_plant(rt, alloc, failing.disk),
+        settings: MemorySource::new(Bytes::new(alloc), one_call(rt, alloc, settings)),
+        plant: failing_plant(rt, alloc, disk),
         clock: ListClock::new(readings),
-        source: MemorySource::new(messages, one_call(rt, alloc, failing.take)),
-        sink: MemorySink::new(alloc, one_call(rt, alloc, failing.put)),
+        source: MemorySource::new(messages, one_call(rt, alloc, take)),
+        sink: MemorySink::new(alloc, one_call(rt, alloc, put)),
     }
 }
 
@@ -120,125 +124,133 @@ fn leaves(rt: &impl Abort, alloc: Global, failing: Failing, readings: &[Option<u
     assert_eq!(rt; outside.plant.short(), 0);
 }
 
-#[test]
-fn each_call_of_the_disk_fails_once(rt: HostRuntime) {
-    for (call, left) in [
-        // `begin`: length, write, sync.
-        (
-            1,
-            (Status::DiskFault, Status::NotBegun, NO_REPLY, NO_REPLY, 0),
-        ),
-        (
-            2,
-            (Status::DiskFault, Status::NotBegun, NO_REPLY, NO_REPLY, 0),
-        ),
-        (3, (Status::DiskFault, Status::Ok, PLACED, PLACED, 211)),
-        // The mount: sync, length, the head, the records.
-        (4, (Status::Ok, Status::DiskFault, NO_REPLY, NO_REPLY, 43)),
-        (5, (Status::Ok, Status::DiskFault, NO_REPLY, NO_REPLY, 43)),
-        (6, (Status::Ok, Status::DiskFault, NO_REPLY, NO_REPLY, 43)),
-        (7, (Status::Ok, Status::DiskFault, NO_REPLY, NO_REPLY, 43)),
-        // The order: write, sync. The second message settles what became of it.
-        (8, (Status::Ok, Status::Ok, DISK_FAULT, PLACED, 211)),
-        (9, (Status::Ok, Status::Ok, DISK_FAULT, PLACED, 211)),
-        // There is no tenth call.
-        (10, (Status::Ok, Status::Ok, PLACED, PLACED, 211)),
-    ] {
-        let failing = Failing {
-            disk: call,
-            ..SOUND
-        };
-        leaves(&rt, rt.alloc(), failing, &[Some(MOMENT)], left);
-    }
-}
+const NOW: Option<u64> = Some(MOMENT);
+
+const EARLY: Option<u64> = Some(FIRST_MOMENT - 1);
+
+const LATE: Option<u64> = Some(LAST_MOMENT + 1);
+
+const UNREAD: Status = Status::ReadFault { settings: true };
+
+const CUT_OFF: Status = Status::ReadFault { settings: false };
+
+const TOO_EARLY_TO_BEGIN: Status = Status::ClockRange {
+    reading: FIRST_MOMENT - 1,
+};
+
+const TOO_LATE_TO_BEGIN: Status = Status::ClockRange {
+    reading: LAST_MOMENT + 1,
+};
+
+const NOT_BEGUN: Left = (Status::DiskFault, Status::NotBegun, NO_REPLY, NO_REPLY, 0);
+
+const UNMOUNTED: Left = (Status::Ok, Status::DiskFault, NO_REPLY, NO_REPLY, 43);
+
+/// The second message settles what became of the first one's order.
+const SETTLED: Left = (Status::Ok, Status::Ok, DISK_FAULT, PLACED, 211);
+
+const WELL: Left = (Status::Ok, Status::Ok, PLACED, PLACED, 211);
+
+/// Which call fails, the readings of the clock, and what is left.
+const FAULTS: &[(Failing, &[Option<u64>], Left)] = &[
+    // `begin`: length, write, sync.
+    (Disk(1), &[NOW], NOT_BEGUN),
+    (Disk(2), &[NOW], NOT_BEGUN),
+    (
+        Disk(3),
+        &[NOW],
+        (Status::DiskFault, Status::Ok, PLACED, PLACED, 211),
+    ),
+    // The mount: sync, length, the head, the records.
+    (Disk(4), &[NOW], UNMOUNTED),
+    (Disk(5), &[NOW], UNMOUNTED),
+    (Disk(6), &[NOW], UNMOUNTED),
+    (Disk(7), &[NOW], UNMOUNTED),
+    // The order: write, sync.
+    (Disk(8), &[NOW], SETTLED),
+    (Disk(9), &[NOW], SETTLED),
+    // There is no tenth call.
+    (Disk(10), &[NOW], WELL),
+    // The settings: once for each word.
+    (
+        Settings(1),
+        &[NOW],
+        (UNREAD, Status::NotBegun, NO_REPLY, NO_REPLY, 0),
+    ),
+    (
+        Settings(2),
+        &[NOW],
+        (Status::Ok, UNREAD, NO_REPLY, NO_REPLY, 43),
+    ),
+    (Settings(3), &[NOW], WELL),
+    // The messages: all of their bytes, and the end.
+    (
+        Take(1),
+        &[NOW],
+        (Status::Ok, CUT_OFF, NO_REPLY, NO_REPLY, 43),
+    ),
+    (Take(2), &[NOW], (Status::Ok, CUT_OFF, PLACED, PLACED, 211)),
+    (Take(3), &[NOW], WELL),
+    // The replies: one for each message.
+    (
+        Put(1),
+        &[NOW],
+        (Status::Ok, Status::WriteFault, NO_REPLY, NO_REPLY, 211),
+    ),
+    (
+        Put(2),
+        &[NOW],
+        (Status::Ok, Status::WriteFault, PLACED, NO_REPLY, 211),
+    ),
+    (Put(3), &[NOW], WELL),
+    // The clock: a reading fails.
+    (
+        Nothing,
+        &[None, NOW, NOW],
+        (Status::ClockFault, Status::NotBegun, NO_REPLY, NO_REPLY, 0),
+    ),
+    (
+        Nothing,
+        &[NOW, None, NOW],
+        (Status::Ok, Status::Ok, CLOCK_FAULT, PLACED, 211),
+    ),
+    (
+        Nothing,
+        &[NOW, NOW, None],
+        (Status::Ok, Status::Ok, PLACED, CLOCK_FAULT, 211),
+    ),
+    // A reading is out of range.
+    (
+        Nothing,
+        &[EARLY, NOW, NOW],
+        (TOO_EARLY_TO_BEGIN, Status::NotBegun, NO_REPLY, NO_REPLY, 0),
+    ),
+    (
+        Nothing,
+        &[LATE, NOW, NOW],
+        (TOO_LATE_TO_BEGIN, Status::NotBegun, NO_REPLY, NO_REPLY, 0),
+    ),
+    (
+        Nothing,
+        &[NOW, EARLY, NOW],
+        (Status::Ok, Status::Ok, TOO_EARLY, PLACED, 211),
+    ),
+    (
+        Nothing,
+        &[NOW, NOW, LATE],
+        (Status::Ok, Status::Ok, PLACED, TOO_LATE, 211),
+    ),
+    // A reading below the last moment: the moment stays.
+    (
+        Nothing,
+        &[NOW, Some(FIRST_MOMENT), Some(FIRST_MOMENT)],
+        WELL,
+    ),
+];
 
 #[test]
-fn each_take_and_each_put_fails_once(rt: HostRuntime) {
-    let unread = Status::ReadFault { settings: true };
-    let cut_off = Status::ReadFault { settings: false };
-    for (settings, take, put, left) in [
-        // The settings: once for each word.
-        (1, 0, 0, (unread, Status::NotBegun, NO_REPLY, NO_REPLY, 0)),
-        (2, 0, 0, (Status::Ok, unread, NO_REPLY, NO_REPLY, 43)),
-        (3, 0, 0, (Status::Ok, Status::Ok, PLACED, PLACED, 211)),
-        // The messages: all of their bytes, and the end.
-        (0, 1, 0, (Status::Ok, cut_off, NO_REPLY, NO_REPLY, 43)),
-        (0, 2, 0, (Status::Ok, cut_off, PLACED, PLACED, 211)),
-        (0, 3, 0, (Status::Ok, Status::Ok, PLACED, PLACED, 211)),
-        // The replies: one for each message.
-        (
-            0,
-            0,
-            1,
-            (Status::Ok, Status::WriteFault, NO_REPLY, NO_REPLY, 211),
-        ),
-        (
-            0,
-            0,
-            2,
-            (Status::Ok, Status::WriteFault, PLACED, NO_REPLY, 211),
-        ),
-        (0, 0, 3, (Status::Ok, Status::Ok, PLACED, PLACED, 211)),
-    ] {
-        let failing = Failing {
-            settings,
-            take,
-            put,
-            ..SOUND
-        };
-        leaves(&rt, rt.alloc(), failing, &[Some(MOMENT)], left);
+fn each_call_fails_once(rt: HostRuntime) {
+    for (failing, readings, left) in FAULTS {
+        leaves(&rt, rt.alloc(), *failing, readings, *left);
     }
-}
-
-#[test]
-fn each_reading_fails_once_or_is_out_of_range(rt: HostRuntime) {
-    let now = Some(MOMENT);
-    let early = Some(FIRST_MOMENT - 1);
-    let late = Some(LAST_MOMENT + 1);
-    let too_early = Status::ClockRange {
-        reading: FIRST_MOMENT - 1,
-    };
-    let too_late = Status::ClockRange {
-        reading: LAST_MOMENT + 1,
-    };
-    for (readings, left) in [
-        (
-            [None, now, now],
-            (Status::ClockFault, Status::NotBegun, NO_REPLY, NO_REPLY, 0),
-        ),
-        (
-            [now, None, now],
-            (Status::Ok, Status::Ok, CLOCK_FAULT, PLACED, 211),
-        ),
-        (
-            [now, now, None],
-            (Status::Ok, Status::Ok, PLACED, CLOCK_FAULT, 211),
-        ),
-        (
-            [early, now, now],
-            (too_early, Status::NotBegun, NO_REPLY, NO_REPLY, 0),
-        ),
-        (
-            [late, now, now],
-            (too_late, Status::NotBegun, NO_REPLY, NO_REPLY, 0),
-        ),
-        (
-            [now, early, now],
-            (Status::Ok, Status::Ok, TOO_EARLY, PLACED, 211),
-        ),
-        (
-            [now, now, late],
-            (Status::Ok, Status::Ok, PLACED, TOO_LATE, 211),
-        ),
-    ] {
-        leaves(&rt, rt.alloc(), SOUND, &readings, left);
-    }
-}
-
-#[test]
-fn a_reading_below_the_last_moment_keeps_the_moment(rt: HostRuntime) {
-    let earlier = Some(FIRST_MOMENT);
-    let readings = [Some(MOMENT), earlier, earlier];
-    let left = (Status::Ok, Status::Ok, PLACED, PLACED, 211);
-    leaves(&rt, rt.alloc(), SOUND, &readings, left);
 }

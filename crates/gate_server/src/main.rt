@@ -4,6 +4,7 @@
 #[cfg(test)]
 mod faults;
 mod opening;
+mod reasons;
 mod running;
 mod session;
 mod status;

@@ -1,44 +1,64 @@
 //! The program's words, files and streams.
 
+use crate::reasons::{Paths, Why, tell};
 use crate::running::run;
 use crate::status::Status;
 use gate_base::Bytes;
-use plant::{FilePlant, Signer, StdSink, StdSource, SystemClock, SystemEntropy};
-use std::env;
-use std::fs::{File, OpenOptions};
+use plant::{
+    FileFault, FilePlant, JournalFile, Signer, StandardNumbers, StdSink, StdSource, SystemClock,
+    SystemEntropy,
+};
+use std::fs::{File, OpenFile};
 use std::process::ExitCode;
+use std::{env, io};
 
 /// Runs the program with the words that it was started with.
 pub fn run_program(rt: &HostRuntime) -> ExitCode {
-    let status = run_words(rt);
-    if status != Status::Ok {
-        tell(rt, status);
-    }
+    // Before any file is opened, so that none gets a standard number.
+    let status = match StandardNumbers::hold(rt) {
+        Ok(_held) => run_words(rt),
+        Err(error) => {
+            let paths = Paths {
+                journal: "/",
+                settings: "",
+            };
+            tell(rt, paths, Status::DiskFault, Why::System(error));
+            Status::DiskFault
+        }
+    };
     ExitCode::from(status.exit())
-}
-
-fn tell(rt: &HostRuntime, status: Status) {
-    let name = status.name();
-    let _ = eprintln!(rt; "gate: {name}");
-    if status == Status::Usage {
-        let _ = eprintln!(rt; "usage: gate JOURNAL CONF SIGNER WORDS");
-    }
 }
 
 fn run_words(rt: &HostRuntime) -> Status {
     let Ok(args) = env::args(rt) else {
-        return Status::Usage;
+        return refused(rt, Status::Usage);
     };
     let Ok(words) = args.skip(1).collect::<Vec<String>>(rt.alloc()) else {
-        return Status::NoMemory;
+        return refused(rt, Status::NoMemory);
     };
-    let [journal, conf, signer, words @ ..] = words.as_slice() else {
-        return Status::Usage;
+    let [journal, settings, signer, words @ ..] = words.as_slice() else {
+        return refused(rt, Status::Usage);
     };
-    match read_signer(rt, signer.as_str()) {
-        Ok(signer) => open_and_run(rt, journal.as_str(), conf.as_str(), signer, words),
-        Err(status) => status,
-    }
+    let paths = Paths {
+        journal: journal.as_str(),
+        settings: settings.as_str(),
+    };
+    let (status, why) = match read_signer(rt, signer.as_str()) {
+        Ok(signer) => open_and_run(rt, paths, signer, words),
+        Err(status) => (status, Why::Signer),
+    };
+    tell(rt, paths, status, why);
+    status
+}
+
+/// Tells a status that comes before the words are known.
+fn refused(rt: &HostRuntime, status: Status) -> Status {
+    let paths = Paths {
+        journal: "",
+        settings: "",
+    };
+    tell(rt, paths, status, Why::Unknown);
+    status
 }
 
 /// `standin:HEX` or `loopback:PORT`.
@@ -72,28 +92,49 @@ fn read_port(digits: &str) -> Option<u16> {
     }
 }
 
-/// Opens the journal and then the settings; `begin` makes the journal's file where it is absent.
+/// Opens and locks the journal, and then opens the settings; `begin` creates the journal's file where it is absent.
 fn open_and_run(
     rt: &HostRuntime,
-    journal: &str,
-    conf: &str,
+    paths: Paths<'_>,
     signer: Signer,
     words: &[String],
-) -> Status {
-    let begins = matches!(words, [word] if word.as_str() == "begin");
-    let Ok(journal) = open_journal(rt, journal, begins) else {
-        return Status::DiskFault;
+) -> (Status, Why) {
+    let journal = match open_journal(rt, paths.journal, words) {
+        Ok(journal) => journal,
+        Err(fault) => return (Status::DiskFault, Why::File(fault)),
     };
-    let Ok(conf) = File::open(rt, conf) else {
-        return Status::ReadFault { settings: true };
+    let settings = match File::open(rt, paths.settings) {
+        Ok(settings) => settings,
+        Err(error) => return (Status::ReadFault { settings: true }, Why::System(error)),
     };
-    let mut plant = FilePlant::new(rt, journal, signer);
-    let mut conf = StdSource::new(conf);
+    run_over(rt, FilePlant::new(rt, journal, signer), settings, words)
+}
+
+fn open_journal(rt: &HostRuntime, path: &str, words: &[String]) -> Result<JournalFile, FileFault> {
+    if matches!(words, [word] if word.as_str() == "begin") {
+        JournalFile::create(rt, rt.alloc(), path)
+    } else {
+        JournalFile::open(rt, path)
+    }
+}
+
+/// Runs over the opened files and the standard streams, and returns the status and why it came.
+fn run_over(
+    rt: &HostRuntime,
+    mut plant: FilePlant<'_, HostRuntime>,
+    settings: File,
+    words: &[String],
+) -> (Status, Why) {
+    let length = match settings.metadata() {
+        Ok(found) => found.len(),
+        Err(_) => 0,
+    };
+    let mut conf = StdSource::new(settings);
     let mut source = StdSource::new(rt.stdin());
     let mut sink = StdSink::new(rt.stdout());
     let mut clock = SystemClock::new(rt);
     let mut entropy = SystemEntropy::new(rt);
-    run(
+    let status = run(
         rt.alloc(),
         words,
         &mut conf,
@@ -102,10 +143,28 @@ fn open_and_run(
         &mut entropy,
         &mut source,
         &mut sink,
-    )
+    );
+    let why = match status {
+        Status::DiskFault => why_file(plant.last_fault()),
+        Status::ReadFault { settings: true } => why_system(conf.last_fault()),
+        Status::ReadFault { settings: false } => why_system(source.last_fault()),
+        Status::WriteFault => why_system(sink.last_fault()),
+        Status::NotBuilt if length > 0 => Why::SettingsHave(length),
+        _ => Why::Unknown,
+    };
+    (status, why)
 }
 
-fn open_journal(rt: &HostRuntime, path: &str, create: bool) -> std::io::Result<File> {
-    let mut options = OpenOptions::new();
-    options.read(true).write(true).create(create).open(rt, path)
+fn why_file(fault: Option<FileFault>) -> Why {
+    match fault {
+        Some(fault) => Why::File(fault),
+        None => Why::Unknown,
+    }
+}
+
+fn why_system(error: Option<io::Error>) -> Why {
+    match error {
+        Some(error) => Why::System(error),
+        None => Why::Unknown,
+    }
 }

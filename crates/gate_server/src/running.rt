@@ -11,6 +11,7 @@ use crate::session::answer_messages;
 use crate::status::Status;
 use gate_base::Moment;
 use gate_engine::{Engine, StartFault, begin};
+use gate_machine::what_steps_keep;
 use journal_core::BeginFault;
 use plant::{Clock, ClockFault, Entropy, Plant, Sink, Source, TakeFault};
 use std::alloc::Global;
@@ -150,7 +151,7 @@ fn run_session<F: Source, P: Plant, C: Clock, E: Entropy, S: Source, K: Sink>(
     }
 }
 
-#[tactic(auto, using(crate::proofs::Runs::session_of, crate::proofs::Runs::refused_of))]
+#[tactic(auto, using(crate::proofs::Runs::refused_of))]
 fn hold_session<P: Plant, C: Clock, E: Entropy, S: Source, K: Sink>(
     alloc: Global,
     plant: &mut P,
@@ -163,6 +164,7 @@ fn hold_session<P: Plant, C: Clock, E: Entropy, S: Source, K: Sink>(
         (outside_of (P.told plant.old) (C.told clock.old) (E.told entropy.old) (S.told source.old) (K.told sink.old))
         (outside_of (P.told plant.new) (C.told clock.new) (E.told entropy.new) (S.told source.new) (K.told sink.new)) result }
 {
+    what_steps_keep();
     match Engine::start(alloc, plant, clock, &[]) {
         Ok(mut engine) => answer_messages(alloc, &mut engine, plant, clock, entropy, source, sink),
         Err(fault) => start_status(fault),

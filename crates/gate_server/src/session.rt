@@ -1,8 +1,11 @@
 //! A session: one message after another is asked and answered.
 ghost use Rattle.std.specs.Prelude.{◌≡◌, ◌≤◌, IfOk};
+ghost use Rattle.gate_entries.specs.Command.{IsCommand};
+ghost use Rattle.gate_machine.specs.History.{Legal};
 ghost use Rattle.gate_machine.specs.Sends.{HasOneBodyEach};
-ghost use Rattle.gate_machine.specs.Step.{IsRecorded, signer_of};
-ghost use Rattle.gate_engine.specs.Engine.{StandsForPlant};
+ghost use Rattle.gate_machine.specs.Serials.{HasOneOrderEach};
+ghost use Rattle.gate_machine.specs.Step.{Step};
+ghost use Rattle.gate_engine.specs.Engine.{StandsForPlant, state_of};
 ghost use Rattle.wire_front.specs.Stream.{most_taken};
 ghost use Rattle.wire_front.specs.Reply.{text_of};
 ghost use Rattle.gate_server.specs.Session.{acme, talk_of, begun, Turns, PutsReply, Ended};
@@ -10,8 +13,8 @@ ghost use Rattle.gate_server.specs.Session.{acme, talk_of, begun, Turns, PutsRep
 use crate::status::Status;
 use gate_base::{Bytes, NoMemory, Role};
 use gate_engine::Engine;
-use gate_entries::{Caller, Reply};
-use gate_machine::what_follows_a_reading;
+use gate_entries::{Caller, Command, Reply};
+use gate_machine::what_steps_keep;
 use plant::{Clock, Entropy, Plant, PutFault, Sink, Source};
 use std::alloc::Global;
 use wire_front::{Stream, Taken, one_passing, reply_text};
@@ -44,13 +47,14 @@ pub fn answer_messages<P: Plant, C: Clock, E: Entropy, S: Source, K: Sink>(
         (talk_of engine.old (P.told plant.old) (C.told clock.old) (E.told entropy.old) begun (S.told source.old) (K.told sink.old))
         engine.new (P.told plant.new) (C.told clock.new) (E.told entropy.new) (S.told source.new) (K.told sink.new) }
     ensures stands { StandsForPlant engine.new (P.told plant.new) }
-    ensures recorded { IsRecorded (signer_of (P.told plant.old)) engine.old.history → IsRecorded (signer_of (P.told plant.new)) engine.new.history }
+    ensures legal { Legal engine.new.history }
     ensures one_body { HasOneBodyEach engine.new.history }
+    ensures one_order { HasOneOrderEach engine.new.history }
 {
     one_passing();
-    what_follows_a_reading();
+    what_steps_keep();
     let Ok(caller) = account(alloc) else {
-        engine.has_one_body_each();
+        engine.keeps_a_legal_history();
         return Status::NoMemory;
     };
     let mut stream = Stream::new(alloc);
@@ -67,7 +71,7 @@ pub fn answer_messages<P: Plant, C: Clock, E: Entropy, S: Source, K: Sink>(
             sink,
         );
         if let Err(status) = turned {
-            engine.has_one_body_each();
+            engine.keeps_a_legal_history();
             return status;
         }
     }
@@ -94,7 +98,6 @@ fn turn<P: Plant, C: Clock, E: Entropy, S: Source, K: Sink>(
     ensures read_later { (S.told source.old).faults ≤ (S.told source.new).faults }
     ensures put_later { (K.told sink.old).faults ≤ (K.told sink.new).faults }
     ensures stands { StandsForPlant engine.new (P.told plant.new) }
-    ensures recorded { IsRecorded (signer_of (P.told plant.old)) engine.old.history → IsRecorded (signer_of (P.told plant.new)) engine.new.history }
 {
     let command = match stream.take_message(alloc, source) {
         Taken::Message(command) => command,
@@ -104,8 +107,28 @@ fn turn<P: Plant, C: Clock, E: Entropy, S: Source, K: Sink>(
         Taken::StreamLong => return Err(Status::StreamLong),
         Taken::NoMemory => return Err(Status::NoMemory),
     };
-    let reply = engine.ask(plant, clock, entropy, caller, &command);
+    let reply = ask_account(engine, plant, clock, entropy, caller, &command);
     put_reply(alloc, sink, &reply)
+}
+
+/// Asks a command as the one account.
+#[tactic(auto, using(crate::proofs::Talks::asked_as))]
+fn ask_account<P: Plant, C: Clock, E: Entropy>(
+    engine: &mut Engine,
+    plant: &mut P,
+    clock: &mut C,
+    entropy: &mut E,
+    caller: &Caller,
+    command: &Command,
+) -> Reply
+    requires stands { StandsForPlant engine.old (P.told plant.old) }
+    requires caller { caller.now ≡ acme }
+    requires command { IsCommand command.now }
+    ensures step { Step (state_of engine.old (P.told plant.old) (C.told clock.old) (E.told entropy.old)) acme command.now result
+        (state_of engine.new (P.told plant.new) (C.told clock.new) (E.told entropy.new)) }
+    ensures stands { StandsForPlant engine.new (P.told plant.new) }
+{
+    engine.ask(plant, clock, entropy, caller, command)
 }
 
 fn put_reply<K: Sink>(alloc: Global, sink: &mut K, reply: &Reply) -> Result<(), Status>

@@ -118,52 +118,67 @@ fn status_of(
     )
 }
 
-/// A run over the plant ends well and writes exactly the output.
-fn succeeds(
-    rt: &impl Abort,
-    alloc: Global,
-    plant: &mut MemoryPlant,
-    word: &str,
-    input: &[u8],
-    output: &[u8],
-) {
-    let mut sink = MemorySink::new(alloc, Sequence::new(alloc));
-    let status = status_of(rt, alloc, plant, word, input, &mut sink);
-    assert_eq!(rt; status, Status::Ok);
-    assert_eq!(rt; sink.bytes(), output);
+/// What the program is asked for: a journal is begun, it is begun where one stands, or messages are answered; how that ends.
+#[derive(Clone, Copy)]
+enum Asked {
+    Begin,
+    BeginAgain,
+    Session,
+    CutSession,
 }
 
-fn begun_plant(rt: &impl Abort, alloc: Global) -> MemoryPlant {
-    let mut plant = empty_plant(alloc);
-    succeeds(rt, alloc, &mut plant, "begin", b"", b"");
-    plant
-}
+use Asked::{Begin, BeginAgain, CutSession, Session};
 
-/// A run over the plant ends so, and writes nothing.
-fn refuses(
-    rt: &impl Abort,
-    alloc: Global,
-    plant: &mut MemoryPlant,
-    word: &str,
-    input: &[u8],
-    want: Status,
-) {
-    let mut sink = MemorySink::new(alloc, Sequence::new(alloc));
-    let status = status_of(rt, alloc, plant, word, input, &mut sink);
-    assert_eq!(rt; status, want);
-    assert_eq!(rt; sink.bytes(), b"".as_slice());
-}
+/// A run: its messages, what it writes, and what the disk then holds behind what `begin` wrote.
+type Case = (
+    Asked,
+    &'static [&'static [u8]],
+    &'static [&'static [u8]],
+    &'static [u8],
+);
 
-/// The disk holds what `begin` wrote and this behind it; nothing was sent to the signer.
-fn holds(rt: &impl Abort, plant: &MemoryPlant, behind: &[u8]) {
-    assert_eq!(rt; plant.disk().get(..43), Some(BEGUN));
-    assert_eq!(rt; plant.disk().get(43..), Some(behind));
-    assert_eq!(rt; plant.sent().len(), 0);
-    assert_eq!(rt; plant.short(), 0);
-}
+/// Runs one after another, each list of them over a disk of its own.
+const RUNS: &[&[Case]] = &[
+    // what stands is not begun again
+    &[(Begin, &[], &[], b""), (BeginAgain, &[], &[], b"")],
+    // no message, and a part of one
+    &[
+        (Begin, &[], &[], b""),
+        (Session, &[], &[], b""),
+        (CutSession, &[b"POST /orders"], &[], b""),
+    ],
+    // a repeated order returns the same reply and writes nothing
+    &[
+        (Begin, &[], &[], b""),
+        (Session, &[ORDER], &[PLACED], ORDERED),
+        (Session, &[OTHER_ORDER], &[KEY_REUSED], ORDERED),
+    ],
+    &[
+        (Begin, &[], &[], b""),
+        (Session, &[ORDER, ORDER], &[PLACED, PLACED], ORDERED),
+        (Session, &[ORDER], &[PLACED], ORDERED),
+    ],
+    // the key of a refused order stays free
+    &[
+        (Begin, &[], &[], b""),
+        (Session, &[FAULTY_ORDER], &[NO_DER], b""),
+        (
+            Session,
+            &[FAULTY_ORDER, ORDER, FAULTY_ORDER],
+            &[NO_DER, PLACED, KEY_REUSED],
+            ORDERED,
+        ),
+    ],
+];
 
-fn twice(rt: &impl Abort, alloc: Global, bytes: &[u8]) -> Vec<u8> {
-    joined(rt, alloc, &[bytes, bytes])
+/// The word that is asked, and how the run ends.
+fn word_of(asked: Asked) -> (&'static str, Status) {
+    match asked {
+        Begin => ("begin", Status::Ok),
+        BeginAgain => ("begin", Status::NotEmpty { length: 43 }),
+        Session => ("session", Status::Ok),
+        CutSession => ("session", Status::NotBuilt),
+    }
 }
 
 fn joined(rt: &impl Abort, alloc: Global, pieces: &[&[u8]]) -> Vec<u8> {
@@ -174,81 +189,62 @@ fn joined(rt: &impl Abort, alloc: Global, pieces: &[&[u8]]) -> Vec<u8> {
     all
 }
 
-#[test]
-fn begin_writes_the_head_and_the_settings(rt: HostRuntime) {
-    let mut plant = begun_plant(&rt, rt.alloc());
-    holds(&rt, &plant, b"");
-    let again = Status::NotEmpty { length: 43 };
-    refuses(&rt, rt.alloc(), &mut plant, "begin", b"", again);
-    holds(&rt, &plant, b"");
+/// The run ends so and writes exactly its output.
+fn run_is(rt: &impl Abort, alloc: Global, plant: &mut MemoryPlant, run: Case) {
+    let (asked, input, output, _) = run;
+    let (word, want) = word_of(asked);
+    let input = joined(rt, alloc, input);
+    let output = joined(rt, alloc, output);
+    let mut sink = MemorySink::new(alloc, Sequence::new(alloc));
+    let status = status_of(rt, alloc, plant, word, &input, &mut sink);
+    assert_eq!(rt; status, want);
+    assert_eq!(rt; sink.bytes(), output.as_slice());
+}
+
+/// The disk holds what `begin` wrote and this behind it; nothing was sent to the signer.
+fn holds(rt: &impl Abort, plant: &MemoryPlant, behind: &[u8]) {
+    assert_eq!(rt; plant.disk().get(..43), Some(BEGUN));
+    assert_eq!(rt; plant.disk().get(43..), Some(behind));
+    assert_eq!(rt; plant.sent().len(), 0);
+    assert_eq!(rt; plant.short(), 0);
+}
+
+fn runs_are(rt: &impl Abort, alloc: Global, runs: &[Case]) {
+    let mut plant = empty_plant(alloc);
+    for run in runs {
+        let (_, _, _, behind) = *run;
+        run_is(rt, alloc, &mut plant, *run);
+        holds(rt, &plant, behind);
+    }
 }
 
 #[test]
-fn a_session_without_an_order_writes_nothing(rt: HostRuntime) {
-    let mut plant = begun_plant(&rt, rt.alloc());
-    succeeds(&rt, rt.alloc(), &mut plant, "session", b"", b"");
-    let cut = Status::NotBuilt;
-    refuses(&rt, rt.alloc(), &mut plant, "session", b"POST /orders", cut);
-    holds(&rt, &plant, b"");
+fn runs_write_and_reply_as_they_should(rt: HostRuntime) {
+    for runs in RUNS {
+        runs_are(&rt, rt.alloc(), runs);
+    }
 }
 
-#[test]
-fn an_order_is_placed(rt: HostRuntime) {
-    let mut plant = begun_plant(&rt, rt.alloc());
-    succeeds(&rt, rt.alloc(), &mut plant, "session", ORDER, PLACED);
-    holds(&rt, &plant, ORDERED);
-}
-
-#[test]
-fn a_repeated_message_writes_nothing(rt: HostRuntime) {
-    let mut plant = begun_plant(&rt, rt.alloc());
-    let orders = twice(&rt, rt.alloc(), ORDER);
-    let replies = twice(&rt, rt.alloc(), PLACED);
-    succeeds(&rt, rt.alloc(), &mut plant, "session", &orders, &replies);
-    holds(&rt, &plant, ORDERED);
-    succeeds(&rt, rt.alloc(), &mut plant, "session", ORDER, PLACED);
-    holds(&rt, &plant, ORDERED);
-}
-
-#[test]
-fn a_reused_key_is_told(rt: HostRuntime) {
-    let mut plant = begun_plant(&rt, rt.alloc());
-    succeeds(&rt, rt.alloc(), &mut plant, "session", ORDER, PLACED);
-    succeeds(
-        &rt,
-        rt.alloc(),
-        &mut plant,
-        "session",
-        OTHER_ORDER,
-        KEY_REUSED,
-    );
-    holds(&rt, &plant, ORDERED);
-}
-
-#[test]
-fn a_faulty_request_is_told_and_its_key_stays_free(rt: HostRuntime) {
-    let alloc = rt.alloc();
-    let mut plant = begun_plant(&rt, alloc);
-    succeeds(&rt, alloc, &mut plant, "session", FAULTY_ORDER, NO_DER);
-    holds(&rt, &plant, b"");
-    let input = joined(&rt, alloc, &[FAULTY_ORDER, ORDER, FAULTY_ORDER]);
-    let output = joined(&rt, alloc, &[NO_DER, PLACED, KEY_REUSED]);
-    succeeds(&rt, alloc, &mut plant, "session", &input, &output);
-    holds(&rt, &plant, ORDERED);
-}
+/// The certificate is returned again without calling the signer.
+const LOST: &[Case] = &[
+    (Begin, &[], &[], b""),
+    (
+        Session,
+        &[ORDER, FINALIZE, FINALIZE],
+        &[PLACED, SIGNER_FAULT, ISSUED],
+        b"",
+    ),
+    (Session, &[FINALIZE], &[ISSUED], b""),
+];
 
 #[test]
 fn a_lost_answer_sends_the_same_bytes_again(rt: HostRuntime) {
     let alloc = rt.alloc();
-    let mut fails = Sequence::new(alloc);
-    fails.push((12, Fail::ReplyLost)).expect(&rt, "memory");
+    let fails = Sequence::from_slice(alloc, &[(12, Fail::ReplyLost)]).expect(&rt, "memory");
     let mut plant = MemoryPlant::new(alloc, Bytes::new(alloc), Bytes::new(alloc), fails);
-    succeeds(&rt, alloc, &mut plant, "begin", b"", b"");
-    let input = joined(&rt, alloc, &[ORDER, FINALIZE, FINALIZE]);
-    let output = joined(&rt, alloc, &[PLACED, SIGNER_FAULT, ISSUED]);
-    succeeds(&rt, alloc, &mut plant, "session", &input, &output);
-    // The certificate is told again, and the signer isn't called.
-    succeeds(&rt, alloc, &mut plant, "session", FINALIZE, ISSUED);
+    for run in LOST {
+        run_is(&rt, alloc, &mut plant, *run);
+    }
     assert_eq!(rt; plant.sent().len(), 2);
     assert!(rt; plant.sent().get(0) == plant.sent().get(1));
 }

@@ -1,6 +1,7 @@
 mod Counts
-mod Domains
-mod IssuerNames
 mod Kept
+mod Meaning
 mod Panels
+mod Readable
+mod Rows
 mod Toml

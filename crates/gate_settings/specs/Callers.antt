@@ -1,17 +1,14 @@
 -- Who may call: the rows that the callers' tables give, each judged after those before it.
-use Rattle.std.specs.Prelude.{ℕ, ◌+◌, ◌==◌, Bool, true, false, not, ◌&&◌, ◌||◌, List, [], ◌∷◌, ◌++◌, length, nat_le, Option, Some, None, option_map, unwrap_or, Result, Ok, Err, if◌then◌else◌}
-use Rattle.std.specs.List.{list_all, list_any, find}
+use Rattle.std.specs.Prelude.{◌≡◌, ℕ, ◌+◌, ◌<◌, ◌==◌, Bool, true, false, not, ◌&&◌, ◌||◌, List, [], ◌∷◌, ◌++◌, length, nat_le, Option, Some, None, option_map, unwrap_or, Result, Ok, Err, if◌then◌else◌}
+use Rattle.std.specs.List.{list_all, list_any, find, slice_get}
 use Rattle.std.specs.Str.{bytes_eq}
 use Rattle.std.specs.Char.{is_ascii_alphanumeric}
 use Rattle.gate_base.specs.declared.profile.Role.{Role}
 use Rattle.gate_base.specs.declared.profile.Role.TheVariants.{Account, Perspective, Operator}
+use Rattle.cert_fields.specs.Profile.{is_visible}
 use Rattle.gate_settings.specs.declared.document.CallerTable.{CallerTable}
 use Rattle.gate_settings.specs.declared.document.PerspectiveTable.{PerspectiveTable}
 use Rattle.gate_settings.specs.declared.row.CallerRow.{CallerRow}
-
--- a printing character of ASCII that is no space
-abbrev pub is_visible : ℕ → Bool
-is_visible byte = nat_le 33 byte && nat_le byte 126
 
 -- an id or a token
 abbrev pub is_word : List ℕ → Bool
@@ -21,7 +18,8 @@ is_word text = nat_le 1 (length text) && nat_le (length text) 64 && list_all is_
 abbrev pub is_base64url : ℕ → Bool
 is_base64url byte = is_ascii_alphanumeric byte || byte == 45 || byte == 95
 
--- the thumbprint of a key (RFC 8555, section 8.1) is SHA-256 in base64url without padding: 43 characters
+-- the thumbprint of a key (RFC 7638) with SHA-256, in base64url without padding, has 43 characters; whether it is what 32 bytes
+-- encode to is not judged
 abbrev pub is_thumb : List ℕ → Bool
 is_thumb text = length text == 43 && list_all is_base64url text
 
@@ -85,3 +83,22 @@ with_token token rows = find (λ row. bytes_eq row.token token) rows
 
 abbrev pub with_id : List ℕ → List CallerRow → Option CallerRow
 with_id id rows = find (λ row. bytes_eq row.id id) rows
+
+-- ---- which row is found
+
+-- the row stands at a place, this holds of it, and of no row before it
+pub record IsFirstRow (Wanted : CallerRow → Type 0) (rows : List CallerRow) (row : CallerRow) : Type 0 where
+  pub place : ℕ
+  pub here : slice_get rows place ≡ Some row
+  pub is : Wanted row
+  pub first : (i : ℕ) (other : CallerRow) → i < place → slice_get rows i ≡ Some other → ¬ (Wanted other)
+
+-- this holds of no row
+pub record IsOfNoRow (Wanted : CallerRow → Type 0) (rows : List CallerRow) : Type 0 where
+  pub none : (i : ℕ) (row : CallerRow) → slice_get rows i ≡ Some row → ¬ (Wanted row)
+
+abbrev pub HasToken : List ℕ → CallerRow → Type 0
+HasToken token row = row.token ≡ token
+
+abbrev pub HasId : List ℕ → CallerRow → Type 0
+HasId id row = row.id ≡ id

@@ -2,6 +2,5 @@ pub mod Words
 pub mod Reading
 pub mod Callers
 pub mod Members
-pub mod Sequences
 pub mod Rules
 pub mod Meaning

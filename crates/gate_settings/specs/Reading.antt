@@ -19,7 +19,7 @@ abbrev pub ◌>>=◌ : {A B : Type 0} → Option A → (A → Option B) → Opti
 (Some x) >>= f = f x
 None >>= f = None
 
--- what a function returned, seen by view, is this, and is refused where there is none; want of memory is free
+-- what a function returned, seen by view, is this, and is refused where there is none; out of memory may be returned at any time
 abbrev pub Refuses : {Y : Type 0} → PartFault → Option Y → Type 0
 Refuses faults.Refused wanted = wanted ≡ None
 Refuses faults.NoMemory wanted = Unit {0}

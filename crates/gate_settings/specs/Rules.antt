@@ -1,9 +1,9 @@
 -- The rules that a settings file keeps, and what breaks each. A rule whose part of the file isn't there is not broken.
-use Rattle.std.specs.Prelude.{◌≡◌, ◌≢◌, ◌⊎◌, ℕ, ◌+◌, ◌<◌, ◌≤◌, Bool, false, ◌&&◌, List, [], ◌∷◌, length, codes, nat_le, nat_eq, Option, Some, None, IsSomeAnd, Result, Ok, Err, slice_get}
-use Rattle.std.specs.List.{AllByRecursion, list_all, starts_with}
+use Rattle.std.specs.Prelude.{◌≡◌, ◌≢◌, ◌⊎◌, ℕ, ◌+◌, ◌<◌, ◌≤◌, false, List, [], ◌∷◌, length, Option, Some, None, IsSomeAnd, Result, Ok, Err, slice_get}
+use Rattle.std.specs.List.{AllByRecursion}
 use Rattle.hex.specs.Hex.{decode_of}
 use Rattle.hex.specs.declared.error.FromHexError.{FromHexError}
-use Rattle.der_text.specs.Tree.{Nodes, constructed, spelling, IsInForm}
+use Rattle.cert_fields.specs.Profile.{IsIssuerName, is_address}
 use Rattle.names_core.specs.Suffix.{rules_read}
 use Rattle.names_core.specs.declared.rule.SuffixFault.{SuffixFault}
 use Rattle.names_core.specs.declared.rule.SuffixFault.TheVariants.{Line, TooMany, NoMemory}
@@ -22,7 +22,7 @@ use Rattle.gate_settings.specs.declared.fault.SettingsFault.{SettingsFault}
 use Rattle.gate_settings.specs.declared.fault.SettingsFault.TheVariants as settings_faults
 use Rattle.gate_settings.specs.Reading.{toml_of, document_of}
 use Rattle.gate_settings.specs.Words.{algorithm_of}
-use Rattle.gate_settings.specs.Callers.{is_visible, rows_of}
+use Rattle.gate_settings.specs.Callers.{rows_of}
 use Rattle.gate_settings.specs.Members.{members_of}
 
 abbrev pub number_of : Rule → ℕ
@@ -54,19 +54,7 @@ bytes_in (Err fault) = None
 abbrev pub hex_of : List ℕ → Option (List ℕ)
 hex_of text = bytes_in (decode_of text)
 
--- A Name (RFC 5280, section 4.1.2.4) is a SEQUENCE. It stands one level below the certificate's body, so it has one level
--- less than a tree may have.
-pub record IsIssuerName (bytes : List ℕ) : Type 0 where
-  pub short : length bytes ≤ 1024
-  pub parts : Nodes
-  pub spelled : bytes ≡ spelling (constructed 48 parts)
-  pub form : IsInForm 31 (constructed 48 parts)
-
--- a web address: at most 512 visible bytes, which begin with the scheme
-abbrev pub is_address : List ℕ → Bool
-is_address text = nat_le (length text) 512 && starts_with nat_eq text (codes "http://") && list_all is_visible text
-
--- what is told of a text that is no hexadecimal
+-- S04: what is told of a text that is no hexadecimal
 abbrev pub TellsHex : List ℕ → Broken → Type 0
 TellsHex text (broken.Rule rule item) = (rule ≡ S04) × (item ≡ 0) × (hex_of text ≡ None)
 TellsHex text broken.NoMemory = Unit {0}
@@ -74,15 +62,19 @@ TellsHex text broken.NoMemory = Unit {0}
 abbrev pub BreaksHex : CaTable → Type 0
 BreaksHex ca = (hex_of ca.issuer ≡ None) ⊎ (hex_of ca.key_id ≡ None)
 
+-- S05: the issuer is no Name that a certificate can have (RFC 5280, section 4.1.2.4)
 abbrev pub BreaksIssuer : CaTable → Type 0
 BreaksIssuer ca = IsSomeAnd (hex_of ca.issuer) (λ bytes. ¬ (IsIssuerName bytes))
 
+-- S06: the algorithm is unknown (BR 2.1.5, section 7.1.3.2)
 abbrev pub BreaksAlgorithm : CaTable → Type 0
 BreaksAlgorithm ca = algorithm_of ca.algorithm ≡ None
 
+-- S07: the key identifier does not have 20 bytes (RFC 5280, section 4.2.1.1; BR 2.1.5, section 7.1.2.11.1)
 abbrev pub BreaksKeyId : CaTable → Type 0
 BreaksKeyId ca = IsSomeAnd (hex_of ca.key_id) (λ bytes. length bytes ≢ 20)
 
+-- S08: an address is not of http (BR 2.1.5, sections 7.1.2.11.2 and 7.1.2.7.7)
 abbrev pub BreaksAddress : CaTable → Type 0
 BreaksAddress ca = (is_address ca.crl ≡ false) ⊎ (is_address ca.aia ≡ false)
 
@@ -94,10 +86,11 @@ line_of (Line number) = number
 line_of TooMany = 0
 line_of NoMemory = 0
 
+-- S09: a line is no rule of a public suffix list, or there are too many
 abbrev pub BreaksSuffixes : List ℕ → ℕ → Type 0
 BreaksSuffixes text line = (fault : SuffixFault) × (rules_read text ≡ Err fault) × (line ≡ line_of fault)
 
--- a result is this, and an error is the item of the rule; want of memory is free
+-- a result is this, and an error is the item of the rule; out of memory may be returned at any time
 abbrev pub GivesAt : {X : Type 0} → Rule → Result X Broken → Result X ℕ → Type 0
 GivesAt rule (Ok x) wanted = wanted ≡ Ok x
 GivesAt rule (Err (broken.Rule told item)) wanted = (told ≡ rule) × (wanted ≡ Err item)
@@ -113,6 +106,7 @@ IsRowOf (panel_faults.BadPlace k) row = row ≡ k + 1
 IsRowOf (panel_faults.TooNear i j) row = row ≡ j + 1
 IsRowOf panel_faults.NoMemory row = ⊥
 
+-- S11: a region is unknown, or the perspectives are no panel (BR 2.1.5, section 3.2.2.9)
 abbrev pub BreaksPanel : Result (List Perspective) ℕ → ℕ → Type 0
 BreaksPanel (Err unknown) row = row ≡ unknown
 BreaksPanel (Ok members) row = (fault : PanelFault) × IsFirstFault members fault × IsRowOf fault row
@@ -126,6 +120,7 @@ IsPanelBroken members broken.NoMemory = Unit {0}
 abbrev pub IsNoDomainAt : List (List ℕ) → ℕ → Type 0
 IsNoDomainAt issuers k = IsSomeAnd (slice_get issuers k) (λ issuer. ¬ (IsDomain issuer))
 
+-- S12: there is no issuer, there are more than 16, or one is no issuer-domain-name (RFC 8659, section 4.2)
 abbrev pub BreaksIssuers : List (List ℕ) → ℕ → Type 0
 BreaksIssuers issuers place =
     (((length issuers ≡ 0) ⊎ (16 < length issuers)) × (place ≡ 0))
@@ -189,7 +184,7 @@ NoneBefore Breaking rule = AllByRecursion (IsKept Breaking) (before rule)
 abbrev pub NoneBroken : (Rule → ℕ → Type 0) → Type 0
 NoneBroken Breaking = AllByRecursion (IsKept Breaking) (S12 ∷ before S12)
 
--- what is told of one rule: that it is broken; want of memory is no rule
+-- what is told of one rule: that it is broken; out of memory is no rule
 abbrev pub TellsOf : (Rule → ℕ → Type 0) → Rule → Broken → Type 0
 TellsOf Breaking rule (broken.Rule told item) = (told ≡ rule) × Breaking rule item
 TellsOf Breaking rule broken.NoMemory = Unit {0}
@@ -204,3 +199,8 @@ abbrev pub IsLeastFault : List ℕ → SettingsFault → Type 0
 IsLeastFault bytes (settings_faults.Rule number item) =
     (rule : Rule) × (number ≡ number_of rule) × Breaks bytes rule item × NoneBefore (Breaks bytes) rule
 IsLeastFault bytes settings_faults.NoMemory = Unit {0}
+
+-- this holds where a rule is told; out of memory is no rule
+abbrev pub IfRule : SettingsFault → Type 0 → Type 0
+IfRule (settings_faults.Rule number item) P = P
+IfRule settings_faults.NoMemory P = Unit {0}

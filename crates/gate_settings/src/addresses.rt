@@ -1,23 +1,16 @@
 //! The addresses that certificates name.
-ghost use Rattle.std.specs.Prelude.{◌≡◌, OnOk, IfErr};
-ghost use Rattle.gate_settings.specs.Rules as spec;
+ghost use Rattle.std.specs.Prelude.{IsTrue, OnOk, IfErr};
+ghost use Rattle.cert_fields.specs.Profile.{is_address};
 ghost use Rattle.gate_settings.specs.Rules.{DocumentBreaks, IsKept, TellsOf};
 
-use crate::callers::are_visible;
 use crate::document::Document;
 use crate::rule::{Broken, Rule};
-
-/// An address has at most this many bytes.
-const LONGEST_ADDRESS: usize = 512;
-
-fn is_address(text: &[u8]) -> bool
-    ensures { result ≡ spec.is_address text.now }
-{
-    text.len() <= LONGEST_ADDRESS && text.starts_with(b"http://") && are_visible(text)
-}
+use cert_fields::is_address;
 
 /// Whether the addresses of a file are web addresses.
 pub fn check_addresses(document: &Document) -> Result<(), Broken>
+    ensures crl { OnOk result (IsTrue (is_address document.now.ca.crl)) }
+    ensures aia { OnOk result (IsTrue (is_address document.now.ca.aia)) }
     ensures kept { OnOk result (IsKept (DocumentBreaks document.now) Rule.S08) }
     ensures err { IfErr result (λ fault. TellsOf (DocumentBreaks document.now) Rule.S08 fault) }
 {

@@ -1,5 +1,6 @@
 //! The authority's profile.
-ghost use Rattle.std.specs.Prelude.{◌≡◌, Some, IfOk, OnOk, IfErr};
+ghost use Rattle.std.specs.Prelude.{◌≡◌, length, Some, IfOk, OnOk, IfErr};
+ghost use Rattle.cert_fields.specs.Profile.{IsIssuerName, IsSoundProfile};
 ghost use Rattle.gate_settings.specs.Meaning.{IsProfileOf};
 ghost use Rattle.gate_settings.specs.Reading.{Gives};
 ghost use Rattle.gate_settings.specs.Rules as spec;
@@ -8,10 +9,10 @@ ghost use Rattle.gate_settings.specs.Words as words;
 
 use crate::addresses::check_addresses;
 use crate::document::Document;
-use crate::issuer_name::is_issuer_name;
 use crate::part::PartFault;
 use crate::rule::{Broken, Rule, refusal};
 use crate::words::algorithm_of;
+use cert_fields::is_issuer_name;
 use gate_base::{Bytes, Plain, Profile, SigAlg, Sixteen4};
 use hex::FromHexError;
 use std::alloc::Global;
@@ -51,6 +52,7 @@ fn bytes_of(alloc: Global, document: &Document) -> Result<(Bytes, Bytes), Broken
 
 fn check_issuer(alloc: Global, document: &Document, issuer: &[u8]) -> Result<(), Broken>
     requires { spec.hex_of document.now.ca.issuer ≡ Some issuer.now }
+    ensures is { OnOk result (IsIssuerName issuer.now) }
     ensures kept { OnOk result (IsKept (DocumentBreaks document.now) Rule.S05) }
     ensures err { IfErr result (λ fault. TellsOf (DocumentBreaks document.now) Rule.S05 fault) }
 {
@@ -75,6 +77,7 @@ fn alg_of(document: &Document) -> Result<SigAlg, Broken>
 fn key_id_of(document: &Document, bytes: &[u8]) -> Result<Sixteen4, Broken>
     requires { spec.hex_of document.now.ca.key_id ≡ Some bytes.now }
     ensures ok { IfOk result (λ key_id. bytes.now ≡ key_id.0) }
+    ensures size { IfOk result (λ key_id. length key_id.0 ≡ 20) }
     ensures kept { OnOk result (IsKept (DocumentBreaks document.now) Rule.S07) }
     ensures err { IfErr result (λ fault. TellsOf (DocumentBreaks document.now) Rule.S07 fault) }
 {
@@ -87,6 +90,7 @@ fn key_id_of(document: &Document, bytes: &[u8]) -> Result<Sixteen4, Broken>
 /// The profile of a file, if it keeps the rules of the authority.
 pub fn profile_of(alloc: Global, document: &Document) -> Result<Profile, Broken>
     ensures ok { IfOk result (λ profile. IsProfileOf document.now.ca profile) }
+    ensures sound { IfOk result IsSoundProfile }
     ensures kept { OnOk result (NoneBefore (DocumentBreaks document.now) Rule.S09) }
     ensures err { IfErr result (λ fault. TellsLeast (DocumentBreaks document.now) fault) }
 {

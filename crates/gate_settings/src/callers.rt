@@ -1,7 +1,8 @@
 //! Who may call.
-ghost use Rattle.std.specs.Prelude.{◌≡◌, [], unwrap_or, option_copied, IfOk, OnOk, IfErr};
+ghost use Rattle.std.specs.Prelude.{◌≡◌, [], unwrap_or, option_copied, IfSome, IfNone, IfOk, OnOk, IfErr};
 ghost use Rattle.std.specs.List.{list_all};
 ghost use Rattle.gate_settings.specs.Callers as spec;
+ghost use Rattle.gate_settings.specs.Callers.{HasId, HasToken, IsFirstRow, IsOfNoRow};
 ghost use Rattle.gate_settings.specs.Reading.{Gives};
 ghost use Rattle.gate_settings.specs.Rules.{DocumentBreaks, GivesAt, IsKept, TellsOf};
 
@@ -9,6 +10,7 @@ use crate::document::{CallerTable, Document, PerspectiveTable};
 use crate::part::PartFault;
 use crate::row::CallerRow;
 use crate::rule::{Broken, Rule, refusal};
+use cert_fields::are_visible;
 use gate_base::{Bytes, NoMemory, Plain, Role, Sequence};
 use std::alloc::Global;
 use std::marker::Model;
@@ -30,24 +32,40 @@ impl Model for Callers {
 
 impl Callers {
     /// The caller with this token.
+    #[tactic(auto, using(crate::proofs::Rows::tokens))]
     pub fn find(&self, token: &[u8]) -> Option<&CallerRow>
-        ensures { option_copied result ≡ spec.with_token token.now self.now }
+        ensures exact { option_copied result ≡ spec.with_token token.now self.now }
+        // It is the first row with the token,
+        ensures first { IfSome result (λ row. IsFirstRow (HasToken token.now) self.now row.now) }
+        // and where none is found, no row has it.
+        ensures none { IfNone result (IsOfNoRow (HasToken token.now) self.now) }
     {
-        self.rows
-            .as_slice()
-            .iter()
-            .find(|row| row.token.as_slice() == token)
+        with_token(self.rows.as_slice(), token)
     }
 
     /// The caller with this id.
+    #[tactic(auto, using(crate::proofs::Rows::ids))]
     pub fn find_id(&self, id: &[u8]) -> Option<&CallerRow>
-        ensures { option_copied result ≡ spec.with_id id.now self.now }
+        ensures exact { option_copied result ≡ spec.with_id id.now self.now }
+        // It is the first row with the id,
+        ensures first { IfSome result (λ row. IsFirstRow (HasId id.now) self.now row.now) }
+        // and where none is found, no row has it.
+        ensures none { IfNone result (IsOfNoRow (HasId id.now) self.now) }
     {
-        self.rows
-            .as_slice()
-            .iter()
-            .find(|row| row.id.as_slice() == id)
+        with_id(self.rows.as_slice(), id)
     }
+}
+
+fn with_token<'a>(rows: &'a [CallerRow], token: &[u8]) -> Option<&'a CallerRow>
+    ensures { option_copied result ≡ spec.with_token token.now rows.now }
+{
+    rows.iter().find(|row| row.token.as_slice() == token)
+}
+
+fn with_id<'a>(rows: &'a [CallerRow], id: &[u8]) -> Option<&'a CallerRow>
+    ensures { option_copied result ≡ spec.with_id id.now rows.now }
+{
+    rows.iter().find(|row| row.id.as_slice() == id)
 }
 
 /// An id or a token has at most this many bytes.
@@ -55,19 +73,6 @@ const LONGEST_WORD: usize = 64;
 
 /// SHA-256 in base64url has this many characters.
 const THUMB_LEN: usize = 43;
-
-fn is_visible(byte: u8) -> bool
-    ensures { result ≡ spec.is_visible byte }
-{
-    b'!' <= byte && byte <= b'~'
-}
-
-/// Printing characters of ASCII, and no space.
-pub fn are_visible(text: &[u8]) -> bool
-    ensures { result ≡ list_all spec.is_visible text.now }
-{
-    text.iter().all(|byte| is_visible(*byte))
-}
 
 fn is_word(text: &[u8]) -> bool
     ensures { result ≡ spec.is_word text.now }

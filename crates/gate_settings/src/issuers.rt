@@ -1,26 +1,14 @@
 //! The names under which the authority is known in CAA records.
-ghost use Rattle.std.specs.Prelude.{◌≡◌, ◌↔◌, ◌<◌, length, IsTrue, IfSome, IfNone, OnOk, IfErr, ℕ};
-ghost use Rattle.caa_climb.specs.IssueValue.{IsDomain};
+ghost use Rattle.std.specs.Prelude.{◌<◌, length, IfSome, IfNone, OnOk, IfErr, ℕ};
 ghost use Rattle.gate_settings.specs.Rules.{DocumentBreaks, IsFirstPlace, IsKept, IsNoDomainAt, TellsOf};
 
 use crate::document::Document;
 use crate::rule::{Broken, Rule};
-use caa_climb::{one_reading, read_issue_value};
-use gate_base::{Bytes, are_same};
+use caa_climb::is_issuer_domain_name;
+use gate_base::Bytes;
 
 /// An authority has at most this many names.
 const MOST_ISSUERS: usize = 16;
-
-/// Whether a text is an issuer-domain-name (RFC 8659, section 4.2): as an issue value it names itself.
-fn is_domain(text: &[u8]) -> bool
-    ensures { IsTrue result ↔ IsDomain text.now }
-{
-    one_reading();
-    match read_issue_value(text) {
-        Some(value) => !text.is_empty() && are_same(value.issuer, text),
-        None => false,
-    }
-}
 
 /// The first that is no issuer-domain-name.
 fn first_wrong(issuers: &[Bytes]) -> Option<usize>
@@ -29,7 +17,7 @@ fn first_wrong(issuers: &[Bytes]) -> Option<usize>
     ensures none { IfNone result ((k : ℕ) → ¬ (IsNoDomainAt issuers.now k)) }
 {
     for k in 0..issuers.len() {
-        if !is_domain(issuers[k].as_slice()) {
+        if !is_issuer_domain_name(issuers[k].as_slice()) {
             return Some(k);
         }
     }

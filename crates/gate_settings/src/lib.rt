@@ -6,8 +6,8 @@ mod authority;
 mod callers;
 mod document;
 mod fault;
-mod issuer_name;
 mod issuers;
+mod laws;
 mod member;
 mod panel;
 mod part;
@@ -20,6 +20,7 @@ mod words;
 
 pub use callers::Callers;
 pub use fault::SettingsFault;
+pub use laws::one_settings;
 pub use row::CallerRow;
 pub use settings::{Settings, read_settings};
 

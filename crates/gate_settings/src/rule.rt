@@ -42,7 +42,7 @@ impl Rule {
     }
 }
 
-/// A rule that is broken, with its item, or want of memory.
+/// A rule that is broken, with its item, or out of memory.
 #[derive(Clone, Copy, Debug, PartialEq, Eq)]
 pub enum Broken {
     Rule(Rule, u64),

@@ -1,8 +1,9 @@
 ghost use Rattle.std.specs.Prelude.{◌≡◌, Some, Ok, IfOk, OnOk, IfErr};
+ghost use Rattle.cert_fields.specs.Profile.{IsSoundProfile};
 ghost use Rattle.names_core.specs.Suffix.{rules_read};
-ghost use Rattle.gate_settings.specs.Meaning.{AreSettingsOf, Says};
+ghost use Rattle.gate_settings.specs.Meaning.{AreSettingsOf, IsReadable, Says};
 ghost use Rattle.gate_settings.specs.Reading as reading;
-ghost use Rattle.gate_settings.specs.Rules.{Breaks, DocumentBreaks, IsKept, IsLeastFault};
+ghost use Rattle.gate_settings.specs.Rules.{Breaks, DocumentBreaks, IfRule, IsKept, IsLeastFault};
 ghost use Rattle.gate_settings.specs.Rules.{NoneBefore, NoneBroken, TellsLeast, TellsOf};
 
 use crate::authority::profile_of;
@@ -48,6 +49,7 @@ fn suffixes_of(alloc: Global, document: &Document) -> Result<Suffixes, Broken>
 /// The settings that a file says, if it keeps every rule from the fourth on.
 fn settings_of(alloc: Global, document: &Document) -> Result<Settings, Broken>
     ensures ok { IfOk result (λ settings. AreSettingsOf document.now settings) }
+    ensures sound { IfOk result (λ settings. IsSoundProfile settings.profile) }
     ensures kept { OnOk result (NoneBroken (DocumentBreaks document.now)) }
     ensures err { IfErr result (λ fault. TellsLeast (DocumentBreaks document.now) fault) }
 {
@@ -88,6 +90,7 @@ fn read_document(alloc: Global, bytes: &[u8]) -> Result<Document, Broken>
 
 fn read(alloc: Global, bytes: &[u8]) -> Result<Settings, Broken>
     ensures ok { IfOk result (λ settings. Says bytes.now settings) }
+    ensures sound { IfOk result (λ settings. IsSoundProfile settings.profile) }
     ensures kept { OnOk result (NoneBroken (Breaks bytes.now)) }
     ensures err { IfErr result (λ fault. TellsLeast (Breaks bytes.now) fault) }
 {
@@ -96,12 +99,17 @@ fn read(alloc: Global, bytes: &[u8]) -> Result<Settings, Broken>
 }
 
 /// The settings that a file says, or the first rule that it breaks.
+#[tactic(auto, using(crate::proofs::Readable::readable))]
 pub fn read_settings(alloc: Global, bytes: &[u8]) -> Result<Settings, SettingsFault>
     // They are those that the file says,
     ensures ok { IfOk result (λ settings. Says bytes.now settings) }
-    // and it breaks no rule.
-    ensures kept { OnOk result (NoneBroken (Breaks bytes.now)) }
-    // Otherwise the rule told is broken, with this item, and none before it.
+    // certificates can be made by their profile,
+    ensures sound { IfOk result (λ settings. IsSoundProfile settings.profile) }
+    // and the file breaks no rule: its bytes are readable settings.
+    ensures readable { OnOk result (IsReadable bytes.now) }
+    // Where a rule is told they aren't,
+    ensures unreadable { IfErr result (λ fault. IfRule fault (¬ (IsReadable bytes.now))) }
+    // and the rule told is broken, with this item, and none before it.
     ensures fault { IfErr result (λ fault. IsLeastFault bytes.now fault) }
 {
     match read(alloc, bytes) {

@@ -1,14 +1,14 @@
 -- What is known of a text where a name is read from it, and where a fault is told.
-use Rattle.std.proofs.Common.{◌≡◌, ℕ, ◌<◌, ◌≤◌, ◌⊎◌, Bool, true, false, List, [], ◌∷◌, Option, Some, None, Result, Ok, Err, IfOk, refl, sym, subst, ◌∙◌, inl, inr, lit≤, arith}
+use Rattle.std.proofs.Common.{◌≡◌, ℕ, ◌<◌, ◌≤◌, ◌⊎◌, Bool, true, false, cond, nat_lt, List, [], ◌∷◌, length, Option, Some, None, Result, Ok, Err, IfOk, refl, sym, subst, ◌∙◌, inl, inr, lit≤, arith}
 use Rattle.std.specs.List.{find, AllByRecursion}
-use Rattle.std.proofs.lemmas.Bool.{cases_Bool, cond-true, cond-false}
+use Rattle.std.proofs.lemmas.Bool.{cases_Bool, cond-true, cond-false, ltb-false}
 use Rattle.std.proofs.lemmas.Option.{none-some, same_Some}
 use Rattle.gate_base.specs.declared.name.Name.{Name}
 use Rattle.names_core.specs.declared.fault.NameRead.{NameRead}
 use Rattle.names_core.specs.declared.fault.NameRead.TheVariants.{Fault, NoMemory}
 use Rattle.names_core.specs.declared.fault.NameFault.{NameFault}
 use Rattle.names_core.specs.declared.fault.NameFault.TheVariants.{Empty, LongLabel, LongName, BadByte, BadHyphen, BadPunycode, BadStar, BadAddress}
-use Rattle.names_core.specs.Name.{breaks, number_of, faults, first_fault, IsFaultOf, IsName, IsNameOf, name_of, unless, name_read, Gives}
+use Rattle.names_core.specs.Name.{labels_break, labels_of, breaks, number_of, faults, first_fault, IsFaultOf, IsNameOf, name_of, unless, name_read, Gives}
 
 fails_all : (test : NameFault → Bool) (list : List NameFault) → find test list ≡ None → AllByRecursion (λ fault. test fault ≡ false) list
 fails_all test [] none = tt
@@ -121,6 +121,16 @@ pub IsFaultOf-Gives : (text : List ℕ) (result : Result Name NameRead) → Give
 IsFaultOf-Gives text (Ok read) gives value same = absurd (cc)
 IsFaultOf-Gives text (Err error) gives value same = told text error value gives (cc)
 
-pub IsName-Gives : (text : List ℕ) (result : Result Name NameRead) → Gives result (name_read text) → IfOk result (λ value. IsName value)
-IsName-Gives text (Ok value) gives = (text, gives)
-IsName-Gives text (Err error) gives = tt
+-- where a value is read, the third of the rules is kept
+third_kept : (a b c : Bool) (x y z : NameFault) (rest : Option NameFault) (value read : Name)
+    → unless (cond a (Some x) (cond b (Some y) (cond c (Some z) rest))) value ≡ Ok read → c ≡ false
+third_kept true b c x y z rest value read is = absurd cc
+third_kept false true c x y z rest value read is = absurd cc
+third_kept false false true x y z rest value read is = absurd cc
+third_kept false false false x y z rest value read is = refl
+
+-- no name is read from a text that is too long
+pub read_size : (text : List ℕ) (value : Name) → name_read text ≡ Ok value → length text ≤ 253
+read_size text value is =
+    let long = third_kept (labels_break Empty (length text) (labels_of text)) (labels_break LongLabel (length text) (labels_of text)) (nat_lt 253 (length text)) Empty LongLabel LongName _ (name_of text) value is in
+    ltb-false 253 (length text) long

@@ -14,7 +14,7 @@ use Rattle.names_core.specs.declared.fault.NameFault.{NameFault}
 use Rattle.names_core.specs.declared.fault.NameRead.{NameRead}
 use Rattle.names_core.specs.Address.{v4_of, v6_of}
 use Rattle.names_core.specs.Name.{Gives, in_lower_case, is_full_stop, is_wild, name_read}
-use Rattle.names_core.specs.Target.{IsTarget, IsWritten, address_read, dns_read, ends_in_number, has_colon, name_text, target_read, target_text}
+use Rattle.names_core.specs.Target.{IsName, IsTarget, IsWritten, address_read, dns_read, ends_in_number, has_colon, name_text, target_read, target_text}
 use Rattle.names_core.proofs.AddressText.{v4_text-of, v6_text-of}
 use Rattle.names_core.proofs.LowerCase.{ends_in_number-lower, has_colon-lower, name_read-lower}
 use Rattle.names_core.proofs.NameLemmas.{IsNameOf-read}
@@ -39,6 +39,14 @@ name_text-read : (text : List ℕ) (name : Name) → name_read text ≡ Ok name 
 name_text-read text name read =
     let of = IsNameOf-read text name read in
     ap₂ (λ wild labels. (if wild then codes "*." else []) ++ join_with_byte 46 labels) of.wild of.labels ∙ written-by (is_wild text) text refl
+
+-- a name that is read is read from its own text
+pub IsName-read : (text : List ℕ) (name : Name) → name_read text ≡ Ok name → IsName name
+IsName-read text name read = ap name_read (name_text-read text name read) ∙ name_read-lower text ∙ read
+
+pub IsName-Gives : (text : List ℕ) (result : Result Name NameRead) → Gives result (name_read text) → IfOk result (λ value. IsName value)
+IsName-Gives text (Ok value) gives = IsName-read text value gives
+IsName-Gives text (Err error) gives = tt
 
 -- how a target was read
 data Origin (text : List ℕ) (target : Target) : Type 0 where

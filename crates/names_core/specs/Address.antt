@@ -44,7 +44,8 @@ octet_of (a ∷ b ∷ c ∷ d ∷ more) = None
 abbrev pub v4_of : List ℕ → Option (List ℕ)
 v4_of text = option_and_then (exactly 4) (read_each octet_of (slice_split (λ byte. byte == 46) text))
 
--- ---- IPv6: eight groups of four hexadecimal digits in lower case, with a colon between each two (RFC 4291, section 2.2, form 1)
+-- ---- IPv6: eight groups of four hexadecimal digits in lower case, with a colon between each two (RFC 4291, section 2.2, form 1;
+-- that shorter forms are refused is this project's own rule)
 
 abbrev pub hex_digit_of : ℕ → ℕ
 hex_digit_of value = if nat_lt value 10 then 48 + value else 87 + value

@@ -12,7 +12,7 @@ use Rattle.names_core.specs.Label.{is_empty, is_too_long, has_bad_byte, has_bad_
 abbrev pub is_full_stop : ℕ → Bool
 is_full_stop byte = byte == 46
 
--- a wildcard name begins with an asterisk and a full stop (BR, section 1.6.1, "Wildcard Domain Name")
+-- a wildcard name begins with an asterisk and a full stop (BR 2.1.5, section 1.6.1, "Wildcard Domain Name")
 abbrev pub is_wild : List ℕ → Bool
 is_wild text = starts_with nat_eq text (codes "*.")
 
@@ -27,7 +27,8 @@ in_lower_case label = map to_ascii_lowercase label
 abbrev pub labels_of : List ℕ → List (List ℕ)
 labels_of text = map in_lower_case (slice_split is_full_stop (without_star text))
 
--- the rule of each fault, of text of this length with these labels; a name has at most 253 bytes (RFC 1034, section 3.1)
+-- the rule of each fault, of text of this length with these labels; a name has at most 253 bytes as text (RFC 1034, section
+-- 3.1: 255 octets with those of lengths)
 abbrev pub labels_break : NameFault → ℕ → List (List ℕ) → Bool
 labels_break Empty len labels = list_any is_empty labels
 labels_break LongLabel len labels = list_any is_too_long labels
@@ -86,11 +87,7 @@ unless (Some fault) value = Err fault
 abbrev pub name_read : List ℕ → Result Name NameFault
 name_read text = unless (first_fault text) (name_of text)
 
--- the name is read from some text
-abbrev pub IsName : Name → Type 0
-IsName name = (text : List ℕ) × (name_read text ≡ Ok name)
-
--- an error is this one, or want of memory
+-- an error is this one, or out of memory
 abbrev pub Tells : {T : Type 0} → NameRead → Result T NameFault → Type 0
 Tells (Fault fault) read = read ≡ Err fault
 Tells NoMemory read = Unit {0}

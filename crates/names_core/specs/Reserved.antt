@@ -1,4 +1,6 @@
--- The addresses that are reserved for special purposes (RFC 6890 and the registries of the IANA).
+-- Reserved IP addresses, which no certificate may contain (BR 2.1.5, section 7.1.2.7.12). The list of blocks is this project's own,
+-- after the IANA registries of special-purpose addresses (RFC 6890). It is stricter, for instance by multicast, and laxer: for
+-- instance 192.88.99.0/24, 192.175.48.0/24, 2001::/23 and 2002::/16 are not in it.
 use Rattle.std.specs.Prelude.{ℕ, ◌-◌, ◌/◌, ◌^◌, Bool, not, ◌||◌, ◌==◌, List, [], ◌∷◌, take}
 use Rattle.std.specs.Int.{w32, from_be_bytes}
 use Rattle.std.specs.List.{list_any}

@@ -81,7 +81,7 @@ rule_count text = count_by (λ line. is_rule_text (rule_text line)) (lines_of te
 abbrev pub rules_read : List ℕ → Result (List Rule) SuffixFault
 rules_read text = if nat_lt 16384 (rule_count text) then Err TooMany else rules_from 1 (lines_of text)
 
--- an error is this one, or want of memory
+-- an error is this one, or out of memory
 abbrev pub TellsSuffix : {T : Type 0} → SuffixFault → Result T SuffixFault → Type 0
 TellsSuffix (Line number) read = read ≡ Err (Line number)
 TellsSuffix TooMany read = read ≡ Err TooMany
@@ -133,12 +133,13 @@ suffix_among None ordinary = ordinary
 abbrev pub suffix_len : List Rule → List (List ℕ) → Option ℕ
 suffix_len rules labels = suffix_among (longest_exception rules labels) (longest_ordinary rules labels)
 
--- the base has one label more than the suffix, if the name does
+-- The base has one label more than the suffix, if the name does. That a name which no rule matches has none is this project's
+-- own rule: the algorithm of the public suffix list would apply the rule `*`.
 abbrev pub base_above : Option ℕ → ℕ → Option ℕ
 base_above None count = None
 base_above (Some suffix) count = if nat_lt suffix count then Some (suffix + 1) else None
 
--- how many labels the Base Domain Name has (BR, section 1.6.1), if there is one
+-- how many labels the Base Domain Name has (BR 2.1.5, section 1.6.1), if there is one
 abbrev pub base_len : List Rule → List (List ℕ) → Option ℕ
 base_len rules labels = base_above (suffix_len rules labels) (length labels)
 

@@ -46,6 +46,10 @@ IsTarget target = (text : List ℕ) × (target_read text ≡ Ok target)
 abbrev pub name_text : Name → List ℕ
 name_text name = (if name.wild then codes "*." else []) ++ join_with_byte 46 name.labels
 
+-- a name is what its own text is read to
+abbrev pub IsName : Name → Type 0
+IsName name = name_read (name_text name) ≡ Ok name
+
 abbrev pub address_text : Address → List ℕ
 address_text (V4 octets) = v4_text octets
 address_text (V6 octets) = v6_text octets

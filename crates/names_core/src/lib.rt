@@ -6,6 +6,7 @@ mod cutting;
 mod fault;
 mod index;
 mod label;
+mod laws;
 mod listing;
 mod reading;
 mod reserved;
@@ -14,6 +15,7 @@ mod suffix;
 mod target;
 
 pub use fault::{NameFault, NameRead};
+pub use laws::names_are_read_again;
 pub use reading::read_name;
 pub use reserved::is_reserved;
 pub use rule::{Rule, RuleKind, SuffixFault};

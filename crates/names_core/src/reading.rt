@@ -1,7 +1,8 @@
 ghost use Rattle.std.specs.Prelude.{◌≡◌, false, map, IfOk};
 ghost use Rattle.std.specs.List.{list_any, slice_split};
 ghost use Rattle.names_core.specs.Label as rules;
-ghost use Rattle.names_core.specs.Name.{Gives, IsFaultOf, IsName, IsNameOf, first_broken, in_lower_case, is_full_stop, name_read};
+ghost use Rattle.names_core.specs.Name.{Gives, IsFaultOf, IsNameOf, first_broken, in_lower_case, is_full_stop, name_read};
+ghost use Rattle.names_core.specs.Target.{IsName};
 
 use crate::cutting::cut_at;
 use crate::fault::{NameFault, NameRead};

@@ -3,6 +3,7 @@ use crate::{
 };
 use gate_base::{Address, Target};
 use std::alloc::Global;
+use std::fmt::Display;
 use std::process::Abort;
 
 /// A label of 63 bytes, and the full stop behind it.
@@ -37,15 +38,7 @@ fn names_and_their_faults(rt: HostRuntime) {
         ("xn--c", NameFault::BadPunycode),
         ("xn--a-b-c", NameFault::BadPunycode),
         ("a.*.b", NameFault::BadStar),
-    ] {
-        let told = name_fault(rt.alloc(), text.as_bytes());
-        assert_eq!(rt; told, Some(NameRead::Fault(fault)), "{text}");
-    }
-}
-
-#[test]
-fn the_first_of_two_faults_is_told(rt: HostRuntime) {
-    for (text, fault) in [
+        // and the first of two faults
         ("_.", NameFault::Empty),
         ("-.", NameFault::Empty),
         ("xn--c.", NameFault::Empty),
@@ -61,6 +54,7 @@ fn the_first_of_two_faults_is_told(rt: HostRuntime) {
         ("-*", NameFault::BadHyphen),
         ("xn--*", NameFault::BadPunycode),
         ("a.*.xn--c", NameFault::BadPunycode),
+        ("xn--c.*.a", NameFault::BadPunycode),
     ] {
         let told = name_fault(rt.alloc(), text.as_bytes());
         assert_eq!(rt; told, Some(NameRead::Fault(fault)), "{text}");
@@ -236,6 +230,38 @@ fn targets_and_their_texts(rt: HostRuntime) {
 fn base_len(rt: &impl Abort, alloc: Global, suffixes: &Suffixes, name: &str) -> Option<u64> {
     let name = read_name(alloc, name.as_bytes()).expect(rt, "a name");
     suffixes.base_len(&name)
+}
+
+/// Whether a fault is printed so.
+fn says(alloc: Global, fault: &impl Display, text: &str) -> bool {
+    match fault.to_string(alloc) {
+        Ok(said) => said.as_str() == text,
+        Err(_) => false,
+    }
+}
+
+#[test]
+fn faults_are_printed(rt: HostRuntime) {
+    for (fault, text) in [
+        (NameFault::Empty, "an empty label"),
+        (NameFault::LongLabel, "a label above 63 bytes"),
+        (NameFault::LongName, "a name above 253 bytes"),
+        (NameFault::BadByte, "a byte that no name has"),
+        (NameFault::BadHyphen, "a misplaced hyphen"),
+        (NameFault::BadPunycode, "bad Punycode"),
+        (NameFault::BadStar, "a misplaced asterisk"),
+        (NameFault::BadAddress, "a malformed address"),
+    ] {
+        assert!(rt; says(rt.alloc(), &NameRead::Fault(fault), text), "{text}");
+    }
+    for (fault, text) in [
+        (SuffixFault::Line(2), "line 2 is no rule"),
+        (SuffixFault::TooMany, "too many rules"),
+        (SuffixFault::NoMemory, "out of memory"),
+    ] {
+        assert!(rt; says(rt.alloc(), &fault, text), "{text}");
+    }
+    assert!(rt; says(rt.alloc(), &NameRead::NoMemory, "out of memory"));
 }
 
 /// The cases are those of the test data of the public suffix list.

@@ -1,6 +1,6 @@
--- Which lists of network perspectives are a panel for multi-perspective issuance corroboration (Baseline Requirements, section 3.2.2.9).
+-- Which lists of network perspectives are a panel for multi-perspective issuance corroboration (BR 2.1.5, section 3.2.2.9).
 -- The numbers are this project's own. Places are in whole kilometres from the centre of the earth.
-use Rattle.std.specs.Prelude.{◌≡◌, ℕ, ◌+◌, ◌*◌, ◌<◌, ◌≤◌, Bool, ◌&&◌, not, List, length, ℤ, Some, IsSomeAnd, slice_get, count_by, nat_le, unsigned_abs}
+use Rattle.std.specs.Prelude.{◌≡◌, ℕ, ◌+◌, ◌*◌, ◌<◌, ◌≤◌, Bool, ◌&&◌, not, List, length, ℤ, Some, IsSomeAnd, IsTrue, slice_get, count_by, nat_le, unsigned_abs}
 use Rattle.std.proofs.Common.{◌-ℤ◌}
 use Rattle.std.specs.List.{AllPass, position}
 use Rattle.perspectives.specs.declared.perspective.Perspective.{Perspective}
@@ -12,6 +12,16 @@ use Rattle.perspectives.specs.declared.rules.Conflict.TheVariants.{Name, Place}
 -- how many members call themselves the primary
 abbrev pub primary_count : List Perspective → ℕ
 primary_count members = count_by (λ p. p.primary) members
+
+-- it is a member that calls itself the primary
+pub record IsPrimaryOf (members : List Perspective) (p : Perspective) : Type 0 where
+  pub place : ℕ
+  pub here : slice_get members place ≡ Some p
+  pub is : IsTrue p.primary
+
+-- no other member calls itself the primary
+pub record HasNoOther (members : List Perspective) (p : Perspective) : Type 0 where
+  pub same : (other : Perspective) → IsPrimaryOf members other → other ≡ p
 
 -- each coordinate is from -20,000 to 20,000
 abbrev pub is_placed : Perspective → Bool
@@ -53,7 +63,7 @@ pub record IsPanel (members : List Perspective) : Type 0 where
   pub places : AllPass is_placed members
   pub apart : HasNoConflict Place members
 
--- the fault is that of the first broken rule, in the order of `IsPanel`, with the first places that break it; want of memory is no rule
+-- the fault is that of the first broken rule, in the order of `IsPanel`, with the first places that break it; out of memory is no rule
 abbrev pub IsFirstFault : List Perspective → PanelFault → Type 0
 IsFirstFault members TooMany = 33 < length members
 IsFirstFault members NoPrimary = (length members ≤ 33) × (primary_count members ≡ 0)

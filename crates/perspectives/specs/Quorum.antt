@@ -1,4 +1,4 @@
--- When remote network perspectives corroborate what the primary saw (Baseline Requirements, section 3.2.2.9). How many are needed
+-- When remote network perspectives corroborate what the primary saw (BR 2.1.5, section 3.2.2.9). How many are needed
 -- is in the dated tables; the numbers are this project's own.
 use Rattle.std.specs.Prelude.{ℕ, ◌-◌, Bool, true, false, ◌&&◌, not, List, [], ◌∷◌, count_by, nat_lt, if◌then◌else◌}
 use Rattle.std.specs.List.{zip, list_any}

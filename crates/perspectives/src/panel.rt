@@ -1,11 +1,11 @@
 ghost use Rattle.std.specs.Prelude.{◌≡◌, ◌≤◌, length, slice_get, OnOk, IfOk, IfErr};
 ghost use Rattle.std.specs.List.{AllPass};
 ghost use Rattle.std.specs.Option.{option_copied};
-ghost use Rattle.perspectives.specs.Panel.{IsPanel, IsFirstFault, HasNoConflict, primary_count, is_placed};
+ghost use Rattle.perspectives.specs.Panel.{IsPanel, IsFirstFault, HasNoConflict, HasNoOther, IsPrimaryOf, primary_count, is_placed};
 
 use crate::fault::PanelFault;
 use crate::perspective::Perspective;
-use crate::rules::{Conflict, first_conflict, first_misplaced, primary_count};
+use crate::rules::{Conflict, first_conflict, first_misplaced, only_primary, primary_count};
 use gate_base::{NoMemory, Sequence};
 use std::alloc::Global;
 use std::marker::Model;
@@ -57,6 +57,16 @@ impl Panel {
         ensures { option_copied result ≡ slice_get self.now i }
     {
         self.members.get(i as usize)
+    }
+
+    /// The primary perspective.
+    pub fn primary(&self) -> &Perspective
+        // It is a member that calls itself the primary,
+        ensures is { IsPrimaryOf self.now result.now }
+        // and there is no other such member.
+        ensures only { HasNoOther self.now result.now }
+    {
+        only_primary(self.members.as_slice())
     }
 
     /// The members in order.

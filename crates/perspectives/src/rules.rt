@@ -1,7 +1,8 @@
 //! What makes a list of perspectives a panel.
 ghost use Rattle.std.specs.Prelude.{◌≡◌, ℕ, ◌+◌, ◌*◌, ◌<◌, ◌↔◌, length, not, IsTrue, IfSome, IfNone};
-ghost use Rattle.std.specs.List.{position};
-ghost use Rattle.perspectives.specs.Panel.{primary_count, is_placed, Conflicts, ConflictAt, HasNoConflict, IsFirstConflict};
+ghost use Rattle.std.specs.List.{find, position};
+ghost use Rattle.std.specs.Option.{option_copied};
+ghost use Rattle.perspectives.specs.Panel.{primary_count, IsPrimaryOf, HasNoOther, is_placed, Conflicts, ConflictAt, HasNoConflict, IsFirstConflict};
 
 use crate::perspective::Perspective;
 
@@ -23,6 +24,26 @@ pub fn primary_count(list: &[Perspective]) -> usize
     ensures { result ≡ primary_count list.now }
 {
     list.iter().filter(|member| member.primary).count()
+}
+
+/// The first member that calls itself the primary.
+fn first_primary(list: &[Perspective]) -> Option<&Perspective>
+    ensures { option_copied result ≡ find (λ p. p.primary) list.now }
+{
+    list.iter().find(|member| member.primary)
+}
+
+/// The member that alone calls itself the primary.
+#[tactic(auto, using(crate::proofs::Primaries::primaries))]
+pub fn only_primary(list: &[Perspective]) -> &Perspective
+    requires { primary_count list.now ≡ 1 }
+    ensures is { IsPrimaryOf list.now result.now }
+    ensures only { HasNoOther list.now result.now }
+{
+    match first_primary(list) {
+        Some(member) => member,
+        None => unreachable!(),
+    }
 }
 
 /// The first member whose place is out of range.

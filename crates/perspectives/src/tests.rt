@@ -3,6 +3,10 @@ use gate_base::{Bytes, Moment, NoMemory};
 use std::alloc::Global;
 use std::test::Fail;
 
+const ARIN: Region = Region::Arin;
+
+const RIPE: Region = Region::Ripe;
+
 /// A perspective on the first axis, named by one byte.
 fn standing(
     alloc: Global,
@@ -21,76 +25,93 @@ fn standing(
     })
 }
 
-/// A primary and remotes in these regions, a thousand kilometres apart.
-fn members(alloc: Global, regions: &[Region]) -> Result<Vec<Perspective>, NoMemory> {
+/// Members in these regions, a thousand kilometres apart, of which the one at a place is the primary.
+fn members(
+    alloc: Global,
+    regions: &[Region],
+    primary: usize,
+) -> Result<Vec<Perspective>, NoMemory> {
     let mut list = Vec::new(alloc);
-    list.push(standing(alloc, 0, true, Region::Ripe, 0)?)?;
-    let mut name = 0u8;
-    let mut x = 0i64;
-    for region in regions {
-        name = name.saturating_add(1);
-        x = x.saturating_add(1000);
-        list.push(standing(alloc, name, false, *region, x)?)?;
+    let mut x = -16_000i64;
+    for at in 0..regions.len() {
+        let id = u8::try_from(at).unwrap_or(u8::MAX);
+        list.push(standing(alloc, id, at == primary, regions[at], x)?)?;
+        x = x.saturating_add(1_000);
     }
     Ok(list)
 }
 
-fn verdict(alloc: Global, regions: &[Region], good: &[bool]) -> Result<Quorum, Fail> {
-    let list = members(alloc, regions)?;
-    let panel = Panel::from_list(alloc, list.as_slice())?;
-    Ok(quorum(&panel, good, Moment(1_799_539_200)))
+/// What is told of a primary, remotes in these regions, and who is good.
+fn verdict(alloc: Global, regions: &[Region], good: &[bool]) -> Option<Quorum> {
+    let Ok(list) = members(alloc, regions, 0) else {
+        return None;
+    };
+    match Panel::from_list(alloc, list.as_slice()) {
+        Ok(panel) => Some(quorum(&panel, good, Moment(1_799_539_200))),
+        Err(_) => None,
+    }
 }
 
 #[test]
-fn silent_remotes_count_as_missing(rt: HostRuntime) -> Result<(), Fail> {
-    let five = [
-        Region::Arin,
-        Region::Ripe,
-        Region::Apnic,
-        Region::Lacnic,
-        Region::Afrinic,
+fn silent_remotes_count_as_missing(rt: HostRuntime) {
+    let rows: [(&[Region], &[bool], Quorum); 3] = [
+        (
+            &[
+                RIPE,
+                ARIN,
+                RIPE,
+                Region::Apnic,
+                Region::Lacnic,
+                Region::Afrinic,
+            ],
+            &[true, true, false, true, false, true],
+            Quorum::TooFew { good: 3, needed: 4 },
+        ),
+        (
+            &[RIPE, ARIN, ARIN, ARIN, ARIN, ARIN],
+            &[true, true, false, true, true, true],
+            Quorum::OneRegion,
+        ),
+        (
+            &[RIPE, ARIN, RIPE, ARIN, RIPE, ARIN, RIPE],
+            &[false, true, true, false, false, true, true],
+            Quorum::Met,
+        ),
     ];
-    let two_silent = [true, true, false, true, false, true];
-    let few = Quorum::TooFew { good: 3, needed: 4 };
-    assert_eq!(rt; verdict(rt.alloc(), &five, &two_silent)?, few);
+    for (regions, good, want) in rows {
+        assert_eq!(rt; verdict(rt.alloc(), regions, good), Some(want), "{good:?}");
+    }
+}
 
-    let one_region = [Region::Arin; 5];
-    let one_silent = [true, true, false, true, true, true];
-    assert_eq!(rt;
-        verdict(rt.alloc(), &one_region, &one_silent)?,
-        Quorum::OneRegion
-    );
-
-    let six = [
-        Region::Arin,
-        Region::Ripe,
-        Region::Arin,
-        Region::Ripe,
-        Region::Arin,
-        Region::Ripe,
-    ];
-    let two_of_six = [false, true, true, false, false, true, true];
-    assert_eq!(rt; verdict(rt.alloc(), &six, &two_of_six)?, Quorum::Met);
-    Ok(())
+/// How many members a panel has, and where its primary stands.
+fn told(alloc: Global, list: &[Perspective]) -> Result<(u64, i64), PanelFault> {
+    let panel = Panel::from_list(alloc, list)?;
+    Ok((panel.len(), panel.primary().x))
 }
 
 #[test]
 fn a_panel_shows_its_members(rt: HostRuntime) -> Result<(), Fail> {
-    let list = members(rt.alloc(), &[Region::Arin, Region::Lacnic])?;
+    let regions = [ARIN; 34];
+    let rows = [
+        (1, 0, Ok((1, -16_000))),
+        (3, 1, Ok((3, -15_000))),
+        (33, 32, Ok((33, 16_000))),
+        (34, 33, Err(PanelFault::TooMany)),
+        (33, 33, Err(PanelFault::NoPrimary)),
+    ];
+    for (count, primary, want) in rows {
+        let list = members(rt.alloc(), &regions[..count], primary)?;
+        assert_eq!(rt; told(rt.alloc(), list.as_slice()), want, "{count} members");
+    }
+    let list = members(rt.alloc(), &[ARIN, RIPE], 0)?;
     let panel = Panel::from_list(rt.alloc(), list.as_slice())?;
-    assert_eq!(rt; panel.len(), 3);
-    assert_eq!(rt;
-        panel.member(2).map(|member| member.region),
-        Some(Region::Lacnic)
-    );
-    assert_eq!(rt; panel.member(2).map(|member| member.x), Some(2000));
-    assert_eq!(rt; panel.member(3).is_none(), true);
+    assert_eq!(rt; panel.member(1).map(|member| member.region), Some(RIPE));
+    assert_eq!(rt; panel.member(2).is_none(), true);
     Ok(())
 }
 
 #[test]
 fn the_first_broken_rule_is_told(rt: HostRuntime) -> Result<(), Fail> {
-    let alloc = rt.alloc();
     let rows = [
         (
             PanelFault::NoPrimary,
@@ -122,24 +143,25 @@ fn the_first_broken_rule_is_told(rt: HostRuntime) -> Result<(), Fail> {
         ),
     ];
     for (fault, places) in rows {
-        let mut list = Vec::new(alloc);
+        let mut list = Vec::new(rt.alloc());
         for (name, primary, x) in places {
-            list.push(standing(alloc, name, primary, Region::Arin, x)?)?;
+            list.push(standing(rt.alloc(), name, primary, ARIN, x)?)?;
         }
-        assert_eq!(rt; Panel::from_list(alloc, list.as_slice()).err(), Some(fault));
+        assert_eq!(rt; told(rt.alloc(), list.as_slice()), Err(fault));
     }
-    let many = members(alloc, &[Region::Apnic; 33])?;
-    assert_eq!(rt;
-        Panel::from_list(alloc, many.as_slice()).err(),
-        Some(PanelFault::TooMany)
-    );
     Ok(())
 }
 
 #[test]
-fn a_fault_is_printed(rt: HostRuntime) -> Result<(), Fail> {
+fn each_fault_is_printed(rt: HostRuntime) -> Result<(), Fail> {
     let rows = [
+        (PanelFault::TooMany, "more than 33 perspectives"),
         (PanelFault::NoPrimary, "no primary perspective"),
+        (
+            PanelFault::TwicePrimary,
+            "more than one primary perspective",
+        ),
+        (PanelFault::TwiceNamed, "two perspectives with one name"),
         (
             PanelFault::BadPlace(7),
             "perspective 7 has a place out of range",
@@ -148,6 +170,7 @@ fn a_fault_is_printed(rt: HostRuntime) -> Result<(), Fail> {
             PanelFault::TooNear(0, 2),
             "perspectives 0 and 2 are too near",
         ),
+        (PanelFault::NoMemory, "out of memory"),
     ];
     for (fault, text) in rows {
         assert_eq!(rt; fault.to_string(rt.alloc())?.as_str(), text);

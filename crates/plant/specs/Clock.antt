@@ -1,5 +1,5 @@
--- What a clock lets be known, and what one reading does to it.
-use Rattle.std.specs.Prelude.{◌≡◌, ℕ, ◌≤◌, List, [], ◌∷◌, Option, Some, None, IfSome, IfNone}
+-- The observable state of a clock, and what one reading does to it.
+use Rattle.std.specs.Prelude.{◌≡◌, ℕ, ◌≤◌, List, [], ◌∷◌, Option, None, IfSome, IfNone}
 use Rattle.std.specs.Option.{option_map}
 use Rattle.plant.specs.Causes.{Rose}
 

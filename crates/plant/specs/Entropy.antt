@@ -1,5 +1,5 @@
--- What a source of random bytes lets be known, and what one draw does to it.
-use Rattle.std.specs.Prelude.{◌≡◌, ℕ, ◌≤◌, List, [], ◌∷◌, Option, Some, None, IfSome, IfNone}
+-- The observable state of a source of random bytes, and what one draw does to it.
+use Rattle.std.specs.Prelude.{◌≡◌, ℕ, ◌≤◌, List, [], ◌∷◌, Option, None, IfSome, IfNone}
 use Rattle.std.specs.Option.{option_map}
 use Rattle.gate_base.specs.declared.sixteen.Sixteen.{Sixteen}
 use Rattle.plant.specs.Causes.{Rose}

@@ -17,3 +17,7 @@ IsSignatureSize count = (1 ≤ count) × (count ≤ 1024)
 -- no whole reply of a signature stands at the front of the bytes
 abbrev pub HasNoReply : List ℕ → Type 0
 HasNoReply bytes = (signature rest : List ℕ) → IsSignatureSize (length signature) → ¬ (bytes ≡ reply_of signature ++ rest)
+
+-- the bytes are no reply of a signature, whole and with nothing behind it
+abbrev pub IsNoReply : List ℕ → Type 0
+IsNoReply bytes = (signature : List ℕ) → IsSignatureSize (length signature) → ¬ (bytes ≡ reply_of signature)

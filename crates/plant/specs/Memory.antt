@@ -15,7 +15,7 @@ one_more count = max count (min (count + 1) (2 ^ 64 - 1))
 abbrev pub fail_at : List (ℕ × Fail) → ℕ → Option Fail
 fail_at pairs call = option_map (λ pair. pair.1) (find (λ pair. pair.0 == call) pairs)
 
--- the stand-in's signature of a body. It is no signature in earnest
+-- the stand-in's signature of a body. It is not a real signature
 abbrev pub stand_in : List ℕ → List ℕ → List ℕ
 stand_in secret body = sha256 (secret ++ body)
 

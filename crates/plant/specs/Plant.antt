@@ -1,4 +1,4 @@
--- What a disk and a signer let be known, and what a call of the one leaves of the other.
+-- The observable state of a disk and of a signer, and what a call of the one leaves of the other.
 use Rattle.std.specs.Prelude.{◌≡◌, ℕ, ◌+◌, List, ◌++◌, length, take, drop, Option}
 
 -- the bytes that a read gives, the bodies handed to the signer, the signer's answers (each a body and a signature),

@@ -1,4 +1,4 @@
--- What a source and a sink of bytes let be known.
+-- The observable state of a source and a sink of bytes.
 use Rattle.std.specs.Prelude.{ℕ, List, take, Option}
 use Rattle.std.specs.Io.KnownBytes.{Appends}
 

@@ -4,38 +4,39 @@ ghost use Rattle.plant.specs.Causes.{HasCause};
 
 use crate::device::Plant;
 use crate::fault::{DiskFault, SignerFault};
+use crate::journal_file::{FileFault, JournalFile};
 use crate::loopback::sign_at;
 use crate::memory_plant::put_stand_in;
 use gate_base::Bytes;
-use std::fs::{File, OpenFile};
-use std::io;
 use std::net::Net;
-use std::os::unix::fs::FileExt;
+use std::rt;
 
 /// What signs.
 #[derive(Debug, Drop)]
 pub enum Signer {
-    /// The stand-in with its secret: SHA-256 of the secret and the body. It is no signature in earnest.
+    /// The stand-in with its secret: SHA-256 of the secret and the body. It is not a real signature.
     StandIn(Bytes),
-    /// A device at this port of 127.0.0.1. It takes four bytes of length, high byte first, and the body,
-    /// and answers two bytes of length and the signature, of 1 to 1,024 bytes.
+    /// A device at this port of 127.0.0.1. It takes four bytes of length, high byte first, and the body, answers
+    /// two bytes of length and the signature, of 1 to 1,024 bytes, and closes the connection, all in 30 seconds.
     Loopback { port: u16 },
 }
 
 /// A file, and what signs. It tells nothing of what the file holds.
-pub struct FilePlant<'a, R: Net> {
+pub struct FilePlant<'a, R: Net + rt::Clock> {
     rt: &'a R,
-    file: File,
+    file: JournalFile,
+    last_fault: Option<FileFault>,
     signer: Signer,
     disk_faults: u64,
     signer_faults: u64,
 }
 
-impl<R: Net> Drop for FilePlant<'_, R> {
+impl<R: Net + rt::Clock> Drop for FilePlant<'_, R> {
     fn drop(self) {
         let FilePlant {
             rt: _,
             file: _file,
+            last_fault: _,
             signer: _signer,
             disk_faults: _,
             signer_faults: _,
@@ -43,32 +44,43 @@ impl<R: Net> Drop for FilePlant<'_, R> {
     }
 }
 
-impl<'a, R: Net> FilePlant<'a, R> {
-    pub fn new(rt: &'a R, file: File, signer: Signer) -> FilePlant<'a, R> {
+impl<'a, R: Net + rt::Clock> FilePlant<'a, R> {
+    pub fn new(rt: &'a R, file: JournalFile, signer: Signer) -> FilePlant<'a, R> {
         FilePlant {
             rt,
             file,
+            last_fault: None,
             signer,
             disk_faults: 0,
             signer_faults: 0,
         }
     }
+
+    /// Why the last of the calls of the disk that failed did so.
+    pub fn last_fault(&self) -> Option<FileFault> {
+        self.last_fault
+    }
 }
 
-/// Counts a fault of the file.
-fn counted<T: Drop>(outcome: io::Result<T>, faults: &mut u64) -> Result<T, DiskFault>
+/// Counts a fault of the file, and keeps why it came.
+fn counted<T: Drop>(
+    outcome: Result<T, FileFault>,
+    faults: &mut u64,
+    last: &mut Option<FileFault>,
+) -> Result<T, DiskFault>
     ensures cause { HasCause faults.old faults.new result }
 {
     match outcome {
         Ok(value) => Ok(value),
-        Err(_) => {
+        Err(fault) => {
             *faults = faults.saturating_add(1);
+            *last = Some(fault);
             Err(DiskFault)
         }
     }
 }
 
-impl<R: Net> Plant for FilePlant<'_, R> {
+impl<R: Net + rt::Clock> Plant for FilePlant<'_, R> {
     ghost use Rattle.std.specs.Prelude.{None};
 
     ghost told = { λ p. record {
@@ -80,20 +92,23 @@ impl<R: Net> Plant for FilePlant<'_, R> {
     } };
 
     fn length(&mut self) -> Result<u64, DiskFault> {
-        let length = self.file.metadata().map(|metadata| metadata.len());
-        counted(length, &mut self.disk_faults)
+        let length = self.file.length();
+        counted(length, &mut self.disk_faults, &mut self.last_fault)
     }
 
     fn read_at(&mut self, at: u64, out: &mut [u8]) -> Result<(), DiskFault> {
-        counted(self.file.read_exact_at(out, at), &mut self.disk_faults)
+        let read = self.file.read_at(at, out);
+        counted(read, &mut self.disk_faults, &mut self.last_fault)
     }
 
     fn write_at(&mut self, at: u64, piece: &[u8]) -> Result<(), DiskFault> {
-        counted(self.file.write_all_at(piece, at), &mut self.disk_faults)
+        let written = self.file.write_at(at, piece);
+        counted(written, &mut self.disk_faults, &mut self.last_fault)
     }
 
     fn sync(&mut self) -> Result<(), DiskFault> {
-        counted(self.file.sync_all(), &mut self.disk_faults)
+        let synced = self.file.sync();
+        counted(synced, &mut self.disk_faults, &mut self.last_fault)
     }
 
     fn sign(&mut self, body: &[u8], out: &mut [u8]) -> Result<usize, SignerFault> {

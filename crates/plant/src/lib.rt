@@ -1,17 +1,21 @@
-//! The outside as the gate sees it: a disk and a signer, a clock, random bytes, and streams of bytes; in memory and in earnest.
+//! The outside as the gate sees it: a disk and a signer, a clock, random bytes, and streams of bytes; in memory and real.
 #![tactic(auto)]
 
 mod clock;
+mod connection;
 mod device;
 mod entropy;
 mod fault;
 mod file_plant;
+mod journal_file;
 mod list_clock;
 mod list_entropy;
 mod loopback;
 mod memory_plant;
 mod memory_sink;
 mod memory_source;
+mod size_limit;
+mod standard_numbers;
 mod standard_stream;
 mod stream;
 mod system;
@@ -23,11 +27,13 @@ pub use fault::{
     ClockFault, DiskFault, EntropyFault, Fail, Fails, PutFault, SignerFault, TakeFault,
 };
 pub use file_plant::{FilePlant, Signer};
+pub use journal_file::{FileFault, JournalFile};
 pub use list_clock::{ListClock, Readings};
 pub use list_entropy::{Draws, ListEntropy};
 pub use memory_plant::MemoryPlant;
 pub use memory_sink::MemorySink;
 pub use memory_source::{Calls, MemorySource};
+pub use standard_numbers::StandardNumbers;
 pub use standard_stream::{StdSink, StdSource};
 pub use stream::{Sink, Source};
 pub use system::{SystemClock, SystemEntropy};

@@ -2,43 +2,54 @@
 ghost use Rattle.std.specs.Prelude.{◌≡◌, ◌<◌, ◌≤◌, ◌^◌, ◌⊎◌, ◌++◌};
 ghost use Rattle.std.specs.Prelude.{length, take, IfOk, IfSome, OnOk, OnErr};
 ghost use Rattle.std.specs.Int.{w16, to_be_bytes};
-ghost use Rattle.std.specs.Io.KnownBytes.{Appends, Consumes};
+ghost use Rattle.std.specs.Io.KnownBytes.{Appends, Consumes, IsAtEnd, Keeps};
 ghost use Rattle.plant.specs.Causes.{Rose};
-ghost use Rattle.plant.specs.Loopback.{request_of, reply_of, IsSignatureSize, HasNoReply};
+ghost use Rattle.plant.specs.Loopback.{request_of, reply_of, IsSignatureSize, HasNoReply, IsNoReply};
 
+use crate::connection::connect;
 use crate::device::SIGNATURE_ROOM;
 use crate::fault::{PutFault, SignerFault, TakeFault};
-use crate::standard_stream::{StdSink, StdSource};
 use crate::stream::{Sink, Source};
-use std::io;
-use std::net::{Ipv4Addr, Net, OpenStream, SocketAddr, TcpStream};
-use std::time::Duration;
+use std::net::Net;
+use std::rt;
 
-/// How long the device may take for a step, in seconds.
-const PATIENCE: u64 = 30;
-
-/// Has a body signed by the device at a port of 127.0.0.1, and answers the length of the signature, which stands
+/// Has a body signed by the device at a port of 127.0.0.1, and returns the length of the signature, which stands
 /// at the front of the piece.
-pub fn sign_at<R: Net>(rt: &R, port: u16, body: &[u8], out: &mut [u8]) -> Result<usize, SignerFault>
+pub fn sign_at<R: Net + rt::Clock>(
+    rt: &R,
+    port: u16,
+    body: &[u8],
+    out: &mut [u8],
+) -> Result<usize, SignerFault>
     requires { length out.old ≡ SIGNATURE_ROOM }
     ensures { IfOk result IsSignatureSize }
 {
-    let Ok(mut stream) = connect(rt, port) else {
-        return Err(SignerFault);
-    };
-    put_request(&mut StdSink::new(&mut stream), body)?;
-    take_signature(&mut StdSource::new(&mut stream), out)
+    match connect(rt, port) {
+        Ok((mut source, mut sink)) => exchange(&mut source, &mut sink, body, out),
+        Err(_) => Err(SignerFault),
+    }
 }
 
-fn connect<R: Net>(rt: &R, port: u16) -> io::Result<R::Stream> {
-    let patience = Duration::from_secs(PATIENCE);
-    let address = SocketAddr::from((Ipv4Addr::LOCALHOST, port));
-    let stream = TcpStream::connect_timeout(rt, &address, patience)?;
-    stream.set_read_timeout(Some(patience))?;
-    stream.set_write_timeout(Some(patience))?;
-    // Else the body may wait until the device has acknowledged its length.
-    stream.set_nodelay(true)?;
-    Ok(stream)
+/// Puts a request and takes its reply, behind which nothing may come. Returns the length of the signature, which
+/// stands at the front of the piece.
+pub fn exchange<S: Source, K: Sink>(
+    source: &mut S,
+    sink: &mut K,
+    body: &[u8],
+    out: &mut [u8],
+) -> Result<usize, SignerFault>
+    requires { length out.old ≡ SIGNATURE_ROOM }
+    ensures size { IfOk result IsSignatureSize }
+    ensures put { OnOk result (Appends (K.told sink.old).held (K.told sink.new).held (request_of body.now)) }
+    ensures took { IfOk result (λ count. Consumes (S.told source.old).left (S.told source.new).left (reply_of (take count out.new))) }
+    ensures whole { OnOk result (IsAtEnd (S.told source.new).left) }
+    ensures err { OnErr result (Rose (K.told sink.old).faults (K.told sink.new).faults ⊎ (2 ^ 32 ≤ length body.now)
+        ⊎ Rose (S.told source.old).faults (S.told source.new).faults ⊎ IfSome (S.told source.old).left IsNoReply) }
+{
+    put_request(sink, body)?;
+    sink.end();
+    let count = take_reply(source, out)?;
+    Ok(count)
 }
 
 /// Puts a body's length and the body.
@@ -66,17 +77,48 @@ fn put_both<K: Sink>(sink: &mut K, front: &[u8], back: &[u8]) -> Result<(), Sign
     }
 }
 
+/// Takes a reply, and the end of the source behind it.
+#[tactic(auto, using(crate::proofs::Replies::none_in_front, crate::proofs::Replies::bytes_behind, crate::proofs::Replies::nothing_more))]
+fn take_reply<S: Source>(source: &mut S, out: &mut [u8]) -> Result<usize, SignerFault>
+    requires { length out.old ≡ SIGNATURE_ROOM }
+    ensures size { IfOk result IsSignatureSize }
+    ensures took { IfOk result (λ count. Consumes (S.told source.old).left (S.told source.new).left (reply_of (take count out.new))) }
+    ensures whole { OnOk result (IsAtEnd (S.told source.new).left) }
+    ensures err { OnErr result (Rose (S.told source.old).faults (S.told source.new).faults ⊎ IfSome (S.told source.old).left IsNoReply) }
+{
+    let count = take_signature(source, out)?;
+    take_end(source)?;
+    Ok(count)
+}
+
 /// Takes a signature's length and the signature, and answers its length; it stands at the front of the piece.
 fn take_signature<S: Source>(source: &mut S, out: &mut [u8]) -> Result<usize, SignerFault>
     requires { length out.old ≡ SIGNATURE_ROOM }
     ensures size { IfOk result IsSignatureSize }
     ensures ok { IfOk result (λ count. Consumes (S.told source.old).left (S.told source.new).left (reply_of (take count out.new))) }
+    ensures later { (S.told source.old).faults ≤ (S.told source.new).faults }
     ensures err { OnErr result (Rose (S.told source.old).faults (S.told source.new).faults ⊎ IfSome (S.told source.old).left HasNoReply) }
 {
     let count = take_size(source)?;
     let (signature, _) = out.split_at_mut(count);
     fill(source, signature)?;
     Ok(count)
+}
+
+/// Takes the end of the source, and no byte.
+#[tactic(auto, using(crate::proofs::Replies::none_taken))]
+fn take_end<S: Source>(source: &mut S) -> Result<(), SignerFault>
+    ensures ok { OnOk result (Keeps (S.told source.old).left (S.told source.new).left × IsAtEnd (S.told source.new).left) }
+    ensures later { (S.told source.old).faults ≤ (S.told source.new).faults }
+    ensures err { OnErr result (Rose (S.told source.old).faults (S.told source.new).faults
+        ⊎ IfSome (S.told source.old).left (λ left. 0 < length left)) }
+{
+    let mut piece = [0];
+    match source.take(&mut piece) {
+        Ok(0) => Ok(()),
+        Ok(_) => Err(SignerFault),
+        Err(TakeFault) => Err(SignerFault),
+    }
 }
 
 /// Takes a signature's length.

@@ -208,7 +208,7 @@ impl Plant for MemoryPlant {
     fn write_at(&mut self, at: u64, piece: &[u8]) -> Result<(), DiskFault>
         requires { at ≤ length self.old.bytes }
         ensures ok { OnOk result (self.new ≡ record (called self.old) { bytes = overwritten self.old.bytes at piece.now }) }
-        // A write that fails writes nothing; it fails where the list says so, and else only for want of memory.
+        // A write that fails writes nothing; it fails where the list says so, and otherwise only when out of memory.
         ensures err { OnErr result (self.new ≡ (if is_some (fail_at self.old.fails self.new.calls)
             then disk_failed (called self.old) else disk_failed (ran_short (called self.old)))) }
         ensures listed { IsSome (fail_at self.old.fails self.new.calls) → IsErr result }

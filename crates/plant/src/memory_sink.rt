@@ -69,7 +69,7 @@ impl Sink for MemorySink {
         ensures cause { HasCause self.old.faults self.new.faults result }
         ensures calls { self.new.calls ≡ one_more self.old.calls }
         ensures fails { self.new.fails ≡ self.old.fails }
-        // It fails where its list says so, and else only for want of memory.
+        // It fails where its list says so, and otherwise only when out of memory.
         ensures listed { Contains self.old.fails self.new.calls → IsErr result }
         ensures failing { OnErr result (Contains self.old.fails self.new.calls ⊎ Rose self.old.short self.new.short) }
     {

@@ -38,7 +38,8 @@ basic_constraints = 0x55 ∷ 0x1d ∷ 0x13 ∷ []
 abbrev pub name_constraints : List ℕ
 name_constraints = 0x55 ∷ 0x1d ∷ 0x1e ∷ []
 
--- the extensions that a body may have (BR, section 7.1.2.7.6, without those that this project does not use)
+-- The extensions that a body may have (BR 2.1.5, section 7.1.2.7.6, without those that this project does not use).
+-- nameConstraints may not be there at all; a rule of its own, L30, tells them.
 abbrev pub allowed_extensions : List (List ℕ)
 allowed_extensions =
     authority_key_identifier ∷ key_usage ∷ ext_key_usage ∷ subject_alt_name ∷ certificate_policies
@@ -51,7 +52,7 @@ server_auth = 0x2b ∷ 0x06 ∷ 0x01 ∷ 0x05 ∷ 0x05 ∷ 0x07 ∷ 0x03 ∷ 0x0
 abbrev pub client_auth : List ℕ
 client_auth = 0x2b ∷ 0x06 ∷ 0x01 ∷ 0x05 ∷ 0x05 ∷ 0x07 ∷ 0x03 ∷ 0x02 ∷ []
 
--- the policy of certificates whose domain control alone was validated (BR, section 7.1.6.1): 2.23.140.1.2.1
+-- the policy of certificates whose domain control alone was validated (BR 2.1.5, section 7.1.6.1): 2.23.140.1.2.1
 abbrev pub domain_validated : List ℕ
 domain_validated = 0x67 ∷ 0x81 ∷ 0x0c ∷ 0x01 ∷ 0x02 ∷ 0x01 ∷ []
 
@@ -59,7 +60,7 @@ domain_validated = 0x67 ∷ 0x81 ∷ 0x0c ∷ 0x01 ∷ 0x02 ∷ 0x01 ∷ []
 abbrev pub ca_issuers : List ℕ
 ca_issuers = 0x2b ∷ 0x06 ∷ 0x01 ∷ 0x05 ∷ 0x05 ∷ 0x07 ∷ 0x30 ∷ 0x02 ∷ []
 
--- the bytes of a signature's algorithm (BR, section 7.1.3.2): sha256WithRSAEncryption with NULL, ecdsa-with-SHA256 and
+-- the bytes of a signature's algorithm (BR 2.1.5, section 7.1.3.2): sha256WithRSAEncryption with NULL, ecdsa-with-SHA256 and
 -- ecdsa-with-SHA384
 abbrev pub signature_algorithm : SigAlg → List ℕ
 signature_algorithm RsaSha256 =

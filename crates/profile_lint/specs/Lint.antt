@@ -4,6 +4,7 @@ use Rattle.gate_base.specs.Tables.{row_at}
 use Rattle.gate_base.specs.declared.profile.Profile.{Profile}
 use Rattle.gate_base.specs.declared.moment.Moment.{Moment}
 use Rattle.names_core.specs.declared.rule.Rule.{Rule}
+use Rattle.public_key.specs.Key.{kind_of}
 use Rattle.tbs_shape.specs.Body.{Body}
 use Rattle.tbs_shape.specs.Shape.{IsBody}
 use Rattle.profile_lint.specs.Identifiers as identifiers
@@ -38,10 +39,10 @@ subject_rows c =
 
 unfoldable pub key_rows : Contents → List (ℕ × Bool)
 key_rows c =
-    (12, rules.key_algorithm_is_bad (rules.kind_of c.body.key_algorithm))
-    ∷ (13, rules.modulus_is_bad (rules.kind_of c.body.key_algorithm) c.key)
-    ∷ (14, rules.exponent_is_bad (rules.kind_of c.body.key_algorithm) c.key)
-    ∷ (15, rules.point_is_bad (rules.kind_of c.body.key_algorithm) c.body.key_bits)
+    (12, rules.key_algorithm_is_bad (kind_of c.body.key_algorithm))
+    ∷ (13, rules.modulus_is_bad (kind_of c.body.key_algorithm) c.key)
+    ∷ (14, rules.exponent_is_bad (kind_of c.body.key_algorithm) c.key)
+    ∷ (15, rules.point_is_bad (kind_of c.body.key_algorithm) c.body.key_bits)
     ∷ []
 
 unfoldable pub name_rows : Contents → List Rule → List (ℕ × Bool)
@@ -59,7 +60,7 @@ name_rows c suffixes =
 unfoldable pub usage_rows : Contents → List (ℕ × Bool)
 usage_rows c =
     (24, rules.usage_is_bad c.usage)
-    ∷ (25, rules.usage_is_wrong (rules.kind_of c.body.key_algorithm) c.usage.extension)
+    ∷ (25, rules.usage_is_wrong (kind_of c.body.key_algorithm) c.usage.extension)
     ∷ (26, rules.purposes_are_bad c.purposes)
     ∷ (27, rules.purposes_are_wrong c.purposes)
     ∷ (28, rules.constraints_are_bad (extension_named identifiers.basic_constraints c.body))

@@ -1,5 +1,5 @@
 -- The names of a subjectAltName (RFC 5280, section 4.2.1.6).
-use Rattle.std.specs.Prelude.{ℕ, Bool, true, false, not, ◌&&◌, ◌||◌, ◌==◌, List, length, Option, Some, None, is_none, Result, Ok, Err, is_err, if◌then◌else◌}
+use Rattle.std.specs.Prelude.{ℕ, Bool, true, false, not, ◌&&◌, ◌||◌, ◌==◌, List, length, is_none, is_err}
 use Rattle.std.specs.Char.{is_ascii_uppercase}
 use Rattle.std.specs.List.{list_any}
 use Rattle.std.specs.Str.{bytes_eq}
@@ -8,13 +8,13 @@ use Rattle.gate_base.specs.declared.name.Address.TheVariants.{V4, V6}
 use Rattle.gate_base.specs.declared.name.Name.{Name}
 use Rattle.gate_base.specs.declared.name.Target.{Target}
 use Rattle.gate_base.specs.declared.name.Target.TheVariants.{Dns, Ip}
-use Rattle.names_core.specs.declared.fault.NameFault.{NameFault}
 use Rattle.names_core.specs.declared.rule.Rule.{Rule}
 use Rattle.names_core.specs.Name.{name_read}
 use Rattle.names_core.specs.Reserved as addresses
 use Rattle.names_core.specs.Suffix.{base_len, labels_eq}
 use Rattle.names_core.specs.Target.{target_text}
 use Rattle.der_text.specs.Tree.{Node, primitive, constructed, Nodes}
+use Rattle.cert_fields.specs.GeneralName.{target_of}
 use Rattle.profile_lint.specs.Parts.{each_given}
 
 -- four octets of IPv4, or sixteen of IPv6
@@ -26,20 +26,7 @@ abbrev pub is_general_name : Node → Bool
 is_general_name (primitive tag content) = (tag == 0x82) || ((tag == 0x87) && is_address content)
 is_general_name (constructed tag parts) = false
 
-abbrev pub dns_of : Result Name NameFault → Option Target
-dns_of (Ok name) = Some (Dns name)
-dns_of (Err fault) = None
-
-abbrev pub ip_of : List ℕ → Option Target
-ip_of octets =
-    if length octets == 4 then Some (Ip (V4 octets)) else if length octets == 16 then Some (Ip (V6 octets)) else None
-
--- a dNSName whose text is a domain name, or an iPAddress
-abbrev pub target_of : Node → Option Target
-target_of (primitive tag content) =
-    if tag == 0x82 then dns_of (name_read content) else if tag == 0x87 then ip_of content else None
-target_of (constructed tag parts) = None
-
+-- the targets that the names are, in their order
 abbrev pub targets_of : Nodes → List Target
 targets_of parts = each_given target_of parts
 
@@ -70,7 +57,7 @@ target_eq (Dns name) (Ip other) = false
 target_eq (Ip address) (Dns other) = false
 target_eq (Ip address) (Ip other) = address_eq address other
 
--- a name that is itself a public suffix, or lies under none
+-- a name that is itself a public suffix, or lies under none: that such a name has no base is this project's own rule
 abbrev pub has_no_base : List Rule → Target → Bool
 has_no_base suffixes (Dns name) = is_none (base_len suffixes name.labels)
 has_no_base suffixes (Ip address) = false

@@ -2,7 +2,7 @@
 use Rattle.std.specs.Prelude.{ℕ, ◌+◌, Bool, true, false, ◌&&◌, ◌||◌, List, [], ◌∷◌, ◌++◌, Option, Some, None}
 use Rattle.std.specs.List.{list_any}
 use Rattle.der_text.specs.Tree.{Node, Nodes, no_nodes, also}
-use Rattle.public_key.specs.Parts.{parts_with}
+use Rattle.der_text.specs.Parts.{parts_with}
 
 abbrev pub any_part : (Node → Bool) → Nodes → Bool
 any_part test no_nodes = false

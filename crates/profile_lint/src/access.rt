@@ -10,10 +10,9 @@ use crate::contents::Judged;
 use crate::extension::absent_or_critical;
 use crate::identifiers::{CA_ISSUERS, is_same};
 use crate::names::{elements, shown};
-use crate::usage::{OBJECT_IDENTIFIER, SEQUENCE};
-use der_text::Tree;
+use der_text::tag::{OBJECT_IDENTIFIER, SEQUENCE};
+use der_text::{Tree, are_none, constructed_parts, take_constructed, take_primitive};
 use gate_base::Profile;
-use public_key::{are_none, constructed_parts, take_constructed, take_primitive};
 use tbs_shape::Extension;
 
 const RESOURCE: u8 = 0x86;

@@ -1,7 +1,6 @@
 //! What bytes say that the rules judge.
 ghost use Rattle.std.specs.Prelude.{◌≡◌, option_map, IfOk};
 ghost use Rattle.der_text.specs.View.{node};
-ghost use Rattle.public_key.specs.Key as key_spec;
 ghost use Rattle.tbs_shape.specs.Shape.{IsBody};
 ghost use Rattle.profile_lint.specs.Contents as said;
 ghost use Rattle.profile_lint.specs.View as shown;
@@ -11,6 +10,7 @@ use crate::identifiers as id;
 use cert_time::read_time;
 use der_text::{ReadFault, Tree, read_tree};
 use gate_base::NoMemory;
+use public_key::behind_zero;
 use std::alloc::Global;
 use tbs_shape::{Body, Extension, Primitive};
 
@@ -83,16 +83,6 @@ fn judge<'b, 'a>(
     let extension = extension_named(identifier, body);
     let tree = reading_of(alloc, value_of(extension))?;
     Ok(Judged { extension, tree })
-}
-
-/// What follows a first byte of 0.
-pub fn behind_zero(content: &[u8]) -> Option<&[u8]>
-    ensures { option_map (λ rest. rest.now) result ≡ key_spec.behind_zero content.now }
-{
-    match content {
-        [0, rest @ ..] => Some(rest),
-        _ => None,
-    }
 }
 
 /// What a body says.

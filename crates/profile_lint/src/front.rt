@@ -3,8 +3,8 @@ ghost use Rattle.std.specs.Prelude.{◌≡◌, option_map};
 ghost use Rattle.profile_lint.specs.Rules as spec;
 
 use crate::identifiers::{is_same, signature_algorithm};
-use crate::number::is_positive;
 use gate_base::Profile;
+use public_key::is_positive;
 
 /// A serial number has at most so many octets.
 const LONGEST_SERIAL: usize = 20;

@@ -1,4 +1,5 @@
-//! The contents of OBJECT IDENTIFIERs, and the algorithms of signatures.
+//! The contents of OBJECT IDENTIFIERs, and the algorithms of signatures. The builder has its own constants, on purpose:
+//! a mistake in one must not be hidden by the other.
 ghost use Rattle.std.specs.Prelude.{◌≡◌};
 ghost use Rattle.std.specs.Str.{bytes_eq};
 ghost use Rattle.profile_lint.specs.Identifiers as spec;

@@ -10,12 +10,11 @@ mod key;
 mod laws;
 mod lint;
 mod names;
-mod number;
 mod subject;
 mod usage;
 mod validity;
 
-pub use laws::one_reading;
+pub use laws::{a_list_tells_each_rule, one_reading};
 pub use lint::lint_body;
 
 #[cfg(test)]

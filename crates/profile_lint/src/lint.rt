@@ -11,8 +11,8 @@ use crate::contents::{Contents, contents_of};
 use crate::extension::{an_extension_is_unknown, extension_named, extensions_are_bad};
 use crate::front::{algorithm_is_bad, issuer_is_bad, serial_is_bad, version_is_bad};
 use crate::identifiers as id;
-use crate::key::{exponent_is_bad, key_algorithm_is_bad, kind_of, modulus_is_bad, point_is_bad};
-use crate::laws::one_reading;
+use crate::key::{exponent_is_bad, key_algorithm_is_bad, modulus_is_bad, point_is_bad};
+use crate::laws::a_list_tells_each_rule;
 use crate::names::{
     a_name_has_no_base, a_name_is_bad, an_address_is_reserved, names_are_absent, names_are_bad,
     names_are_many, names_are_wrongly_critical, shown, targets_of,
@@ -25,6 +25,7 @@ use crate::usage::{
 use crate::validity::{a_time_is_bad, ends_early, lasts_too_long};
 use gate_base::{Moment, NoMemory, Profile, Rules, Targets, validity_days};
 use names_core::Suffixes;
+use public_key::kind_named;
 use std::alloc::Global;
 use tbs_shape::{BodyFault, read_body};
 
@@ -77,7 +78,7 @@ fn subject_rows(
 fn key_rows(c: &Contents<'_, '_>) -> [Row; 4]
     ensures { result ≡ spec.key_rows (view.contents c.now) }
 {
-    let kind = kind_of(c.body.key_algorithm());
+    let kind = kind_named(c.body.key_algorithm());
     [
         (12, key_algorithm_is_bad(kind)),
         (13, modulus_is_bad(kind, c.key.as_ref())),
@@ -118,7 +119,7 @@ fn name_rows(
 fn usage_rows(c: &Contents<'_, '_>) -> [Row; 6]
     ensures { result ≡ spec.usage_rows (view.contents c.now) }
 {
-    let kind = kind_of(c.body.key_algorithm());
+    let kind = kind_named(c.body.key_algorithm());
     [
         (24, usage_is_bad(&c.usage)),
         (25, usage_is_wrong(kind, c.usage.extension)),
@@ -225,7 +226,7 @@ pub fn lint_body(
     // which has the number of each rule that is broken, and no other, rising.
     ensures exact { IfOk result (λ list. spec.IsLint bytes.now p.now s.now m list) }
 {
-    one_reading();
+    a_list_tells_each_rule();
     let list = listed(alloc, bytes, p, s, m)?;
     Ok(list)
 }

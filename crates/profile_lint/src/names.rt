@@ -1,5 +1,5 @@
 //! The names of a subjectAltName.
-ghost use Rattle.std.specs.Prelude.{◌≡◌, ◌++◌, ◌∷◌, [], Some, option_map, is_err, IfOk, OnOk};
+ghost use Rattle.std.specs.Prelude.{◌≡◌, ◌++◌, option_map, is_err, IfOk, OnOk};
 ghost use Rattle.std.specs.Char.{is_ascii_uppercase};
 ghost use Rattle.std.specs.List.{list_any};
 ghost use Rattle.der_text.specs.View.{node, nodes};
@@ -10,18 +10,17 @@ ghost use Rattle.profile_lint.specs.Rules as rules;
 ghost use Rattle.profile_lint.specs.View as shown;
 
 use crate::contents::Judged;
-use der_text::Tree;
+use cert_fields::target_of_general_name;
+use der_text::tag::SEQUENCE;
+use der_text::{Tree, are_none, constructed_parts};
 use gate_base::{Address, Name, NoMemory, Target, Targets};
 use names_core::{NameRead, Suffixes, is_reserved, read_name, target_text};
-use public_key::{are_none, constructed_parts};
 use std::alloc::Global;
 use tbs_shape::Extension;
 
 const DNS_NAME: u8 = 0x82;
 
 const IP_ADDRESS: u8 = 0x87;
-
-const SEQUENCE: u8 = 0x30;
 
 /// A certificate has at most so many names.
 const MOST_NAMES: usize = 100;
@@ -104,41 +103,6 @@ pub fn names_are_bad(names: &Judged<'_, '_>) -> bool
     names.extension.is_some() && !are_names(elements(names.tree.as_ref()))
 }
 
-fn dns_of(alloc: Global, text: &[u8]) -> Result<Option<Target>, NoMemory>
-    ensures { IfOk result (λ target. target ≡ spec.dns_of (name_spec.name_read text.now)) }
-{
-    match read_name(alloc, text) {
-        Ok(name) => Ok(Some(Target::Dns(name))),
-        Err(NameRead::Fault(_)) => Ok(None),
-        Err(NameRead::NoMemory) => Err(NoMemory),
-    }
-}
-
-fn ip_of(octets: &[u8]) -> Option<Target>
-    ensures { result ≡ spec.ip_of octets.now }
-{
-    if let Ok(octets) = <[u8; 4]>::try_from(octets) {
-        return Some(Target::Ip(Address::V4(octets)));
-    }
-    match <[u8; 16]>::try_from(octets) {
-        Ok(octets) => Some(Target::Ip(Address::V6(octets))),
-        Err(_) => None,
-    }
-}
-
-fn target_of(alloc: Global, part: &Tree<'_>) -> Result<Option<Target>, NoMemory>
-    ensures { IfOk result (λ target. target ≡ spec.target_of (node part.now)) }
-{
-    match part {
-        Tree::Prim { tag, content } => match *tag {
-            DNS_NAME => dns_of(alloc, content),
-            IP_ADDRESS => Ok(ip_of(content)),
-            _ => Ok(None),
-        },
-        Tree::Cons { .. } => Ok(None),
-    }
-}
-
 fn push_target(target: Option<Target>, targets: &mut Targets) -> Result<(), NoMemory>
     ensures { OnOk result (targets.new ≡ targets.old ++ parts_spec.listed target) }
 {
@@ -149,14 +113,13 @@ fn push_target(target: Option<Target>, targets: &mut Targets) -> Result<(), NoMe
 }
 
 /// The targets that the parts show, in their order.
-
 pub fn targets_of(alloc: Global, parts: &[Tree<'_>]) -> Result<Targets, NoMemory>
     ensures { IfOk result (λ targets. targets ≡ spec.targets_of (nodes parts.now)) }
 {
     let mut targets = Targets::new(alloc);
     let mut rest = parts;
     while let [first, others @ ..] = rest {
-        push_target(target_of(alloc, first)?, &mut targets)?;
+        push_target(target_of_general_name(alloc, first)?, &mut targets)?;
         rest = others;
     }
     Ok(targets)

@@ -8,13 +8,10 @@ ghost use Rattle.profile_lint.specs.Rules as spec;
 
 use crate::identifiers::{COMMON_NAME, COUNTRY_NAME, is_same};
 use crate::names::is_text_of;
+use der_text::tag::{PRINTABLE_STRING, UTF8_STRING};
 use gate_base::{NoMemory, Target};
 use std::alloc::Global;
 use tbs_shape::{Attribute, Primitive};
-
-const UTF8_STRING: u8 = 0x0c;
-
-const PRINTABLE_STRING: u8 = 0x13;
 
 /// A commonName has at most so many bytes.
 const LONGEST_COMMON_NAME: usize = 64;

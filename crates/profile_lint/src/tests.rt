@@ -3,11 +3,11 @@ mod shapes;
 
 use crate::lint_body;
 use changes::{ONE_CHANGE, RSA_KEYS, TWO_CHANGES};
+use der_text::tag::SEQUENCE;
 use gate_base::{Bytes, Moment, NoMemory, Profile, Rules, SigAlg, Sixteen4};
 use names_core::Suffixes;
 use shapes::{PARTS, SHAPES};
 use std::alloc::Global;
-use std::test::Fail;
 
 /// 2026-09-21T14:13:20Z, when 200 days are allowed.
 const NOW: Moment = Moment(1_790_000_000);
@@ -23,8 +23,6 @@ const NAMES: usize = 11;
 const ALL_EXTENSIONS: usize = 16;
 
 const BEHIND: usize = 17;
-
-const SEQUENCE: u8 = 0x30;
 
 fn append(bytes: &[u8], out: &mut Vec<u8>) -> Result<(), NoMemory> {
     out.extend_from_slice(bytes)?;
@@ -106,50 +104,71 @@ fn breaks(
     Ok(lint(alloc, &bytes, m)?.as_slice() == rules)
 }
 
-/// The first single change that gets another list than its own.
-fn first_change(alloc: Global) -> Result<usize, NoMemory> {
-    for (at, row) in ONE_CHANGE.iter().enumerate() {
+/// The first single change that gets another list than its own, or how many there are.
+fn first_change(alloc: Global, rows: &[(usize, &[u8], &[u8])]) -> Result<usize, NoMemory> {
+    for (at, row) in rows.iter().enumerate() {
         if !breaks(alloc, &[(row.0, row.1)], NOW, row.2)? {
             return Ok(at);
         }
     }
-    Ok(ONE_CHANGE.len())
+    Ok(rows.len())
 }
 
-/// The first pair of changes that gets another list than its own.
-fn first_pair(alloc: Global) -> Result<usize, NoMemory> {
-    for (at, row) in TWO_CHANGES.iter().enumerate() {
+/// The first pair of changes that gets another list than its own, or how many there are.
+fn first_pair(
+    alloc: Global,
+    rows: &[(usize, &[u8], usize, &[u8], &[u8])],
+) -> Result<usize, NoMemory> {
+    for (at, row) in rows.iter().enumerate() {
         if !breaks(alloc, &[(row.0, row.1), (row.2, row.3)], NOW, row.4)? {
             return Ok(at);
         }
     }
-    Ok(TWO_CHANGES.len())
+    Ok(rows.len())
 }
 
-/// The first shape that gets another list than that of the first rule alone.
-fn first_shape(alloc: Global) -> Result<usize, NoMemory> {
-    for (at, change) in SHAPES.iter().enumerate() {
-        if !breaks(alloc, &[*change], NOW, &[0])? {
+/// The first shape that gets another list than that of the first rule alone, or how many there are.
+fn first_shape(alloc: Global, rows: &[(usize, &[u8])]) -> Result<usize, NoMemory> {
+    for (at, row) in rows.iter().enumerate() {
+        if !breaks(alloc, &[*row], NOW, &[0])? {
             return Ok(at);
         }
     }
-    Ok(SHAPES.len())
+    Ok(rows.len())
 }
 
-/// The first RSA key that gets another list than its own.
-fn first_key(alloc: Global) -> Result<usize, NoMemory> {
-    for (at, row) in RSA_KEYS.iter().enumerate() {
-        let mut key = Vec::new(alloc);
-        append(row.0, &mut key)?;
-        for _ in 0..row.1 {
-            append(&[0x11], &mut key)?;
-        }
-        append(row.2, &mut key)?;
+/// What stands before bytes 11, so many of these, and what stands behind them.
+fn filled(alloc: Global, front: &[u8], count: usize, back: &[u8]) -> Result<Vec<u8>, NoMemory> {
+    let mut bytes = Vec::new(alloc);
+    append(front, &mut bytes)?;
+    for _ in 0..count {
+        append(&[0x11], &mut bytes)?;
+    }
+    append(back, &mut bytes)?;
+    Ok(bytes)
+}
+
+/// The first RSA key that gets another list than its own, or how many there are.
+fn first_key(alloc: Global, rows: &[(&[u8], usize, &[u8], &[u8])]) -> Result<usize, NoMemory> {
+    for (at, row) in rows.iter().enumerate() {
+        let key = filled(alloc, row.0, row.1, row.2)?;
         if !breaks(alloc, &[(KEY, key.as_slice())], NOW, row.3)? {
             return Ok(at);
         }
     }
-    Ok(RSA_KEYS.len())
+    Ok(rows.len())
+}
+
+/// Whether bytes that are no body break the first rule alone.
+fn is_no_body(alloc: Global, bytes: &[u8]) -> Result<bool, NoMemory> {
+    Ok(lint(alloc, bytes, NOW)?.as_slice() == [0u8].as_slice())
+}
+
+/// Whether a body with a byte behind it breaks the first rule alone.
+fn has_no_end(alloc: Global) -> Result<bool, NoMemory> {
+    let mut trailing = body(alloc, &[])?;
+    append(&[0], &mut trailing)?;
+    is_no_body(alloc, &trailing)
 }
 
 /// A subjectAltName with the addresses 8.8.8.0, 8.8.8.1 and so on.
@@ -168,57 +187,51 @@ fn addresses(alloc: Global, count: u8) -> Result<Vec<u8>, NoMemory> {
     Ok(extension)
 }
 
+/// Whether a body with so many addresses breaks these rules.
+fn names_break(alloc: Global, count: u8, rules: &[u8]) -> Result<bool, NoMemory> {
+    let names = addresses(alloc, count)?;
+    breaks(alloc, &[(NAMES, names.as_slice())], NOW, rules)
+}
+
+/// 200 days
+const DAYS: &[u8] = b"0\x1e\x17\x0d260921141320Z\x17\x0d270409141319Z";
+
+/// 200 days and a second
+const MORE: &[u8] = b"0\x1e\x17\x0d260921141320Z\x17\x0d270409141320Z";
+
+/// A validity, a moment, and the broken rules: 200 days are allowed to the last second before 2027-03-15, and 398 to
+/// that before 2026-03-15.
+const LIMITS: [(&[u8], u64, &[u8]); 4] = [
+    (DAYS, 1_805_068_799, &[]),
+    (DAYS, 1_805_068_800, &[7]),
+    (MORE, 1_773_532_799, &[]),
+    (MORE, 1_773_532_800, &[7]),
+];
+
 #[test]
-fn each_change_breaks_its_rules(rt: HostRuntime) -> Result<(), Fail> {
-    assert_eq!(rt;
-        first_change(rt.alloc()).expect(&rt, "memory"),
-        ONE_CHANGE.len()
-    );
-    assert_eq!(rt;
-        first_pair(rt.alloc()).expect(&rt, "memory"),
-        TWO_CHANGES.len()
-    );
-    assert_eq!(rt; first_shape(rt.alloc()).expect(&rt, "memory"), SHAPES.len());
-    assert_eq!(rt; first_key(rt.alloc()).expect(&rt, "memory"), RSA_KEYS.len());
-    Ok(())
+fn each_change_breaks_its_rules(rt: HostRuntime) {
+    let alloc = rt.alloc();
+    assert_eq!(rt; breaks(alloc, &[], NOW, &[]), Ok(true));
+    assert_eq!(rt; first_change(alloc, ONE_CHANGE), Ok(ONE_CHANGE.len()));
+    assert_eq!(rt; first_pair(alloc, TWO_CHANGES), Ok(TWO_CHANGES.len()));
+    assert_eq!(rt; first_shape(alloc, SHAPES), Ok(SHAPES.len()));
+    assert_eq!(rt; first_key(alloc, RSA_KEYS), Ok(RSA_KEYS.len()));
 }
 
 #[test]
-fn bytes_that_are_no_body_break_the_first_rule(rt: HostRuntime) -> Result<(), Fail> {
+fn limits_are_met(rt: HostRuntime) {
+    let alloc = rt.alloc();
     let other: [&[u8]; 5] = [b"", b"0", b"0\0", b"1\0", b"0\x81\x05\x05\0\x05\0\0"];
     for bytes in other {
-        let rules = lint(rt.alloc(), bytes, NOW).expect(&rt, "memory");
-        assert_eq!(rt; rules.as_slice(), &[0u8][..]);
+        assert_eq!(rt; is_no_body(alloc, bytes), Ok(true), "{bytes:?}");
     }
-    let mut trailing = body(rt.alloc(), &[]).expect(&rt, "memory");
-    trailing.push(0).expect(&rt, "memory");
-    let rules = lint(rt.alloc(), &trailing, NOW).expect(&rt, "memory");
-    assert_eq!(rt; rules.as_slice(), &[0u8][..]);
-    Ok(())
-}
-
-#[test]
-fn limits_are_met(rt: HostRuntime) -> Result<(), Fail> {
-    // 200 days are allowed to the last second before 2027-03-15, and 398 to that before 2026-03-15
-    let example = breaks(rt.alloc(), &[], NOW, &[]);
-    assert_eq!(rt; example.expect(&rt, "memory"), true);
-    let days: &[u8] = b"0\x1e\x17\x0d260921141320Z\x17\x0d270409141319Z";
-    let more: &[u8] = b"0\x1e\x17\x0d260921141320Z\x17\x0d270409141320Z";
-    let rows: [(&[u8], u64, &[u8]); 4] = [
-        (days, 1_805_068_799, &[]),
-        (days, 1_805_068_800, &[7]),
-        (more, 1_773_532_799, &[]),
-        (more, 1_773_532_800, &[7]),
-    ];
-    for (validity, m, rules) in rows {
-        let right = breaks(rt.alloc(), &[(VALIDITY, validity)], Moment(m), rules);
-        assert_eq!(rt; right.expect(&rt, "memory"), true, "at {m}");
+    assert_eq!(rt; has_no_end(alloc), Ok(true));
+    for (validity, m, rules) in LIMITS {
+        let right = breaks(alloc, &[(VALIDITY, validity)], Moment(m), rules);
+        assert_eq!(rt; right, Ok(true), "at {m}");
     }
     let rows: [(u8, &[u8]); 2] = [(100, &[]), (101, &[34])];
     for (count, rules) in rows {
-        let names = addresses(rt.alloc(), count).expect(&rt, "memory");
-        let right = breaks(rt.alloc(), &[(NAMES, names.as_slice())], NOW, rules);
-        assert_eq!(rt; right.expect(&rt, "memory"), true, "{count} names");
+        assert_eq!(rt; names_break(alloc, count, rules), Ok(true), "{count} names");
     }
-    Ok(())
 }

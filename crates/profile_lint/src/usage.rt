@@ -10,16 +10,10 @@ use crate::extension::{absent_or_critical, absent_or_not_critical, has_value};
 use crate::identifiers::{CLIENT_AUTH, DOMAIN_VALIDATED, SERVER_AUTH, is_same};
 use crate::key::is_rsa;
 use crate::names::{elements, shown};
-use der_text::Tree;
+use der_text::tag::{BIT_STRING, OBJECT_IDENTIFIER, SEQUENCE};
+use der_text::{Tree, constructed_parts, take_primitive};
 use gate_base::KeyKind;
-use public_key::{constructed_parts, take_primitive};
 use tbs_shape::Extension;
-
-const BIT_STRING: u8 = 0x03;
-
-pub const OBJECT_IDENTIFIER: u8 = 0x06;
-
-pub const SEQUENCE: u8 = 0x30;
 
 /// A BIT STRING that says digitalSignature.
 const SIGNS: [u8; 4] = [0x03, 0x02, 0x07, 0x80];

@@ -1,3 +1,2 @@
-pub mod Inversion
 pub mod Trees
 pub mod Algorithms

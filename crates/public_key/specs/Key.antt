@@ -1,13 +1,14 @@
 -- Which public keys are certified, and of which kind they are. A key is a SubjectPublicKeyInfo (RFC 5280, section 4.1):
 -- a SEQUENCE of its algorithm and a BIT STRING.
 use Rattle.std.specs.Prelude.{◌≡◌, ℕ, ◌*◌, ◌%◌, Bool, false, not, ◌&&◌, ◌==◌, nat_le, nat_lt, IsTrue, List, [], ◌∷◌, length, Option, Some, None, if◌then◌else◌}
+use Rattle.std.specs.Str.{bytes_eq}
 use Rattle.gate_base.specs.declared.profile.KeyKind.{KeyKind}
 use Rattle.gate_base.specs.declared.profile.KeyKind.TheVariants.{Rsa, P256, P384, P521}
 use Rattle.der_text.specs.Content.{last_of}
 use Rattle.der_text.specs.Tree.{Node, primitive, constructed, no_nodes, also, spelling, IsDer}
-use Rattle.public_key.specs.Parts.{◌>>=◌, parts_with, primitive_at, behind_first, at_end}
+use Rattle.der_text.specs.Parts.{◌>>=◌, parts_with, primitive_at, behind_first, at_end}
 
--- the bytes of the algorithm (BR, section 7.1.3.1): rsaEncryption with NULL, or id-ecPublicKey with the curve
+-- the bytes of the algorithm (BR 2.1.5, section 7.1.3.1): rsaEncryption with NULL, or id-ecPublicKey with the curve
 abbrev pub algorithm_bytes : KeyKind → List ℕ
 algorithm_bytes Rsa =
     0x30 ∷ 0x0d ∷ 0x06 ∷ 0x09 ∷ 0x2a ∷ 0x86 ∷ 0x48 ∷ 0x86 ∷ 0xf7 ∷ 0x0d ∷ 0x01 ∷ 0x01 ∷ 0x01 ∷ 0x05 ∷ 0x00 ∷ []
@@ -18,6 +19,15 @@ algorithm_bytes P384 =
     0x30 ∷ 0x10 ∷ 0x06 ∷ 0x07 ∷ 0x2a ∷ 0x86 ∷ 0x48 ∷ 0xce ∷ 0x3d ∷ 0x02 ∷ 0x01 ∷ 0x06 ∷ 0x05 ∷ 0x2b ∷ 0x81 ∷ 0x04 ∷ 0x00 ∷ 0x22 ∷ []
 algorithm_bytes P521 =
     0x30 ∷ 0x10 ∷ 0x06 ∷ 0x07 ∷ 0x2a ∷ 0x86 ∷ 0x48 ∷ 0xce ∷ 0x3d ∷ 0x02 ∷ 0x01 ∷ 0x06 ∷ 0x05 ∷ 0x2b ∷ 0x81 ∷ 0x04 ∷ 0x00 ∷ 0x23 ∷ []
+
+-- the kind that an algorithm's bytes name
+abbrev pub kind_of : List ℕ → Option KeyKind
+kind_of algorithm =
+    if bytes_eq algorithm (algorithm_bytes Rsa) then Some Rsa else
+    if bytes_eq algorithm (algorithm_bytes P256) then Some P256 else
+    if bytes_eq algorithm (algorithm_bytes P384) then Some P384 else
+    if bytes_eq algorithm (algorithm_bytes P521) then Some P521 else
+    None
 
 -- ---- numbers, by the content of an INTEGER (X.690, section 8.3)
 
@@ -33,7 +43,7 @@ magnitude (first ∷ rest) = if first == 0 then rest else first ∷ rest
 abbrev pub is_positive : List ℕ → Bool
 is_positive content = not (begins_from_128 content) && nat_lt 0 (length (magnitude content))
 
--- A modulus has 2,048 bits or more, and a multiple of 8 (BR, section 6.1.5): the top bit of its first byte is set.
+-- A modulus has 2,048 bits or more, and a multiple of 8 (BR 2.1.5, section 6.1.5): the top bit of its first byte is set.
 abbrev pub is_modulus : List ℕ → Bool
 is_modulus content = is_positive content && begins_from_128 (magnitude content) && nat_le 256 (length (magnitude content))
 
@@ -46,7 +56,7 @@ is_one [] = false
 is_one (first ∷ []) = first == 1
 is_one (first ∷ second ∷ rest) = false
 
--- An exponent is odd and 3 or more (BR, section 6.1.6). That it has at most 32 bytes is this project's own.
+-- An exponent is odd and 3 or more (BR 2.1.5, section 6.1.6). That it has at most 32 bytes is this project's own.
 abbrev pub is_exponent : List ℕ → Bool
 is_exponent content = is_positive content && is_odd content && not (is_one content) && nat_le (length (magnitude content)) 32
 
@@ -63,7 +73,8 @@ pub record IsRsa (bits : List ℕ) : Type 0 where
   pub good_modulus : IsTrue (is_modulus modulus)
   pub good_exponent : IsTrue (is_exponent exponent)
 
--- a point (SEC 1, section 2.3.3) that is not compressed: 04 and two coordinates of so many bytes
+-- a point (RFC 5480, section 2.2) that is not compressed: 04 and two coordinates of so many bytes. That compressed points are
+-- refused is this project's own rule; whether the point lies on its curve (BR 2.1.5, section 6.1.5) is not judged.
 abbrev pub is_point : ℕ → List ℕ → Bool
 is_point size [] = false
 is_point size (form ∷ coordinates) = form == 4 && (length coordinates == 2 * size)

@@ -5,19 +5,16 @@ ghost use Rattle.public_key.specs.Key as spec;
 ghost use Rattle.public_key.specs.Key.{IsRsa, AreBitsOf};
 
 use crate::number::{is_exponent, is_modulus};
-use crate::parts::{are_none, constructed_parts, take_primitive};
-use der_text::{ReadFault, Tree, read_tree};
+use der_text::tag::{INTEGER, SEQUENCE};
+use der_text::{
+    ReadFault, Tree, are_none, constructed_parts, parts_are_read_as_they_stand, read_tree,
+    take_primitive,
+};
 use gate_base::{KeyKind, NoMemory};
 use std::alloc::Global;
 
-/// The tag of a SEQUENCE.
-pub const SEQUENCE: u8 = 0x30;
-
-/// The tag of an INTEGER.
-const INTEGER: u8 = 0x02;
-
-/// The modulus and the exponent of an RSA key.
-fn numbers_of<'a>(tree: &Tree<'a>) -> Option<(&'a [u8], &'a [u8])>
+/// The contents of the two INTEGERs, modulus and exponent, that an RSAPublicKey is (RFC 8017, section A.1.1).
+pub fn numbers_of<'a>(tree: &Tree<'a>) -> Option<(&'a [u8], &'a [u8])>
     ensures { option_map (λ x. (x.0.now, x.1.now)) result ≡ spec.numbers_of (node tree.now) }
 {
     let parts = constructed_parts(SEQUENCE, tree)?;
@@ -39,6 +36,7 @@ fn are_good(modulus: &[u8], exponent: &[u8]) -> bool
 fn is_rsa(alloc: Global, bits: &[u8]) -> Result<bool, NoMemory>
     ensures { IfOk result (λ good. IsTrue good ↔ IsRsa bits.now) }
 {
+    parts_are_read_as_they_stand();
     let tree = match read_tree(alloc, bits) {
         Ok(tree) => tree,
         Err(ReadFault::Der(_)) => return Ok(false),
@@ -50,7 +48,8 @@ fn is_rsa(alloc: Global, bits: &[u8]) -> Result<bool, NoMemory>
     }
 }
 
-fn is_point(size: usize, bits: &[u8]) -> bool
+/// Whether the bits are a point that is not compressed (SEC 1, section 2.3.3), with two coordinates of so many bytes.
+pub fn is_point(size: usize, bits: &[u8]) -> bool
     requires { size < 128 }
     ensures { result ≡ spec.is_point size bits.now }
 {

@@ -1,18 +1,18 @@
 //! A key, by the bytes of its SubjectPublicKeyInfo.
-ghost use Rattle.std.specs.Prelude.{◌≡◌, ◌↔◌, Some, option_map, IfOk};
+ghost use Rattle.std.specs.Prelude.{◌≡◌, ◌↔◌, Some, option_map, IsTrue, IfOk};
+ghost use Rattle.std.specs.Str.{bytes_eq};
 ghost use Rattle.der_text.specs.View.{node};
 ghost use Rattle.gate_base.specs.declared.profile.KeyKind.{KeyKind};
 ghost use Rattle.public_key.specs.Key as spec;
 ghost use Rattle.public_key.specs.Key.{IsKeyOf, algorithm_bytes};
 
-use crate::bits::{SEQUENCE, are_bits_of};
-use crate::parts::{are_none, constructed_parts, skip_first, take_primitive};
-use der_text::{ReadFault, Tree, part_at, read_tree};
-use gate_base::{KeyKind, NoMemory, are_same};
+use crate::bits::are_bits_of;
+use der_text::tag::{BIT_STRING, SEQUENCE};
+use der_text::{
+    ReadFault, Tree, are_none, constructed_parts, part_at, read_tree, skip_first, take_primitive,
+};
+use gate_base::{KeyKind, NoMemory};
 use std::alloc::Global;
-
-/// The tag of a BIT STRING.
-const BIT_STRING: u8 = 0x03;
 
 const RSA: [u8; 15] = [
     0x30, 0x0d, 0x06, 0x09, 0x2a, 0x86, 0x48, 0x86, 0xf7, 0x0d, 0x01, 0x01, 0x01, 0x05, 0x00,
@@ -33,25 +33,34 @@ const P521: [u8; 18] = [
     0x00, 0x23,
 ];
 
-/// The kind of key that an algorithm's bytes name.
-fn kind_named(algorithm: &[u8]) -> Option<KeyKind>
-    ensures { (kind : KeyKind) → (algorithm.now ≡ algorithm_bytes kind) ↔ (result ≡ Some kind) }
+/// Whether two byte strings are the same.
+fn is_same(left: &[u8], right: &[u8]) -> bool
+    ensures test { result ≡ bytes_eq left.now right.now }
+    ensures same { IsTrue result ↔ (left.now ≡ right.now) }
 {
-    if are_same(algorithm, &RSA) {
+    left == right
+}
+
+/// The kind of key that the bytes of an AlgorithmIdentifier name (BR, section 7.1.3.1).
+pub fn kind_named(algorithm: &[u8]) -> Option<KeyKind>
+    ensures exact { result ≡ spec.kind_of algorithm.now }
+    ensures named { (kind : KeyKind) → (algorithm.now ≡ algorithm_bytes kind) ↔ (result ≡ Some kind) }
+{
+    if is_same(algorithm, &RSA) {
         Some(KeyKind::Rsa)
-    } else if are_same(algorithm, &P256) {
+    } else if is_same(algorithm, &P256) {
         Some(KeyKind::P256)
-    } else if are_same(algorithm, &P384) {
+    } else if is_same(algorithm, &P384) {
         Some(KeyKind::P384)
-    } else if are_same(algorithm, &P521) {
+    } else if is_same(algorithm, &P521) {
         Some(KeyKind::P521)
     } else {
         None
     }
 }
 
-/// What follows a first byte of 0.
-fn behind_zero(content: &[u8]) -> Option<&[u8]>
+/// What follows a first byte of 0: the bits of a BIT STRING whose last byte has no unused ones (X.690, section 8.6).
+pub fn behind_zero(content: &[u8]) -> Option<&[u8]>
     ensures { option_map (λ rest. rest.now) result ≡ spec.behind_zero content.now }
 {
     match content {

@@ -5,11 +5,11 @@ mod bits;
 mod key;
 mod laws;
 mod number;
-mod parts;
 
-pub use key::read_key_kind;
+pub use bits::{is_point, numbers_of};
+pub use key::{behind_zero, kind_named, read_key_kind};
 pub use laws::one_kind;
-pub use parts::{are_none, constructed_parts, take_constructed, take_primitive};
+pub use number::{is_exponent, is_modulus, is_positive, magnitude};
 
 #[cfg(test)]
 mod tests;

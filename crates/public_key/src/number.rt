@@ -1,4 +1,4 @@
-//! Numbers, by the content of an INTEGER.
+//! Numbers, by the content of an INTEGER (X.690, section 8.3).
 ghost use Rattle.std.specs.Prelude.{◌≡◌, ◌*◌};
 ghost use Rattle.der_text.specs.Content as content_spec;
 ghost use Rattle.public_key.specs.Key as spec;
@@ -19,7 +19,7 @@ fn begins_from_128(content: &[u8]) -> bool
 }
 
 /// The bytes of a number, without a 00 in front.
-fn magnitude(content: &[u8]) -> &[u8]
+pub fn magnitude(content: &[u8]) -> &[u8]
     ensures { result.now ≡ spec.magnitude content.now }
 {
     match content {
@@ -28,13 +28,14 @@ fn magnitude(content: &[u8]) -> &[u8]
     }
 }
 
-fn is_positive(content: &[u8]) -> bool
+/// Whether the content of an INTEGER is a number above 0.
+pub fn is_positive(content: &[u8]) -> bool
     ensures { result ≡ spec.is_positive content.now }
 {
     !begins_from_128(content) && magnitude(content).len() > 0
 }
 
-/// Whether the number may be the modulus of an RSA key.
+/// Whether the number may be the modulus of an RSA key (BR, section 6.1.5).
 pub fn is_modulus(content: &[u8]) -> bool
     ensures { result ≡ spec.is_modulus content.now }
 {
@@ -71,7 +72,7 @@ fn is_one(content: &[u8]) -> bool
     }
 }
 
-/// Whether the number may be the exponent of an RSA key.
+/// Whether the number may be the exponent of an RSA key (BR, section 6.1.6).
 pub fn is_exponent(content: &[u8]) -> bool
     ensures { result ≡ spec.is_exponent content.now }
 {

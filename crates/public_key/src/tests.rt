@@ -169,6 +169,13 @@ const KEYS: &[Row] = &[
         \x01\x01\x01\x01\x01\x01\x01\x01\x01\x01\x01\x01\x01",
         0,
     ),
+    // bits that are no DER
+    (
+        b"\x30\x13\x30\x0d\x06\x09\x2a\x86\x48\x86\xf7\x0d\x01\x01\x01\x05\0\x03\x02\0\x30",
+        0,
+        b"",
+        0,
+    ),
     // no tree
     (b"\x30", 0, b"", 0),
     // an empty SEQUENCE

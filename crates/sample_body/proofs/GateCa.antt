@@ -2,7 +2,7 @@
 use Rattle.std.proofs.Common.{◌≡◌, List, ℕ, [], ◌∷◌, refl, arith, subst, sym}
 use Rattle.der_text.specs.Content.{keeps_rule, is_primitive_content}
 use Rattle.der_text.specs.Tree.{primitive, constructed, no_nodes, also, length_octets, IsInForm, AreInForm}
-use Rattle.tbs_build.specs.Profile.{IsIssuerName}
+use Rattle.cert_fields.specs.Profile.{IsIssuerName}
 
 gate_ca : List ℕ
 gate_ca =

@@ -12,6 +12,8 @@ use std::{fmt, io};
 pub enum Fault {
     /// The words are none that are known.
     Usage,
+    /// The request has more than 16,384 bytes.
+    Long,
     /// The bytes are no request that is certified.
     Request(CsrFault),
     /// The request has no subjectAltName.
@@ -34,6 +36,7 @@ impl Fault {
             Fault::NoNames => 4,
             Fault::Names => 5,
             Fault::Key => 6,
+            Fault::Long => 7,
             Fault::Input(_) => 8,
             Fault::Output(_) => 9,
             Fault::NoMemory => 20,
@@ -46,8 +49,9 @@ impl fmt::Display for Fault {
         match self {
             Fault::Usage => f.write_str(
                 "usage: sample_body SERIAL NOT_BEFORE empty-subject|common-name \
-                 ecdsa-with-SHA256|sha256WithRSAEncryption",
+                 ecdsa-with-SHA256|ecdsa-with-SHA384|sha256WithRSAEncryption",
             ),
+            Fault::Long => f.write_str("a request of more than 16384 bytes"),
             Fault::Request(fault) => write!(f, "{fault}"),
             Fault::NoNames => f.write_str("no subjectAltName"),
             Fault::Names => f.write_str("names that can't stand in a certificate"),

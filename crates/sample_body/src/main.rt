@@ -9,13 +9,13 @@ mod sample;
 mod words;
 
 use crate::fault::Fault;
-use crate::sample::body_for;
+use crate::sample::{LONGEST_REQUEST, body_for};
 use crate::words::read_words;
 use std::io::Read;
 use std::process::ExitCode;
 
-/// No request is longer.
-const LONGEST_REQUEST: u64 = 16_384;
+/// A request that is too long is read so far that this shows.
+const ENOUGH: u64 = LONGEST_REQUEST as u64 + 1;
 
 /// Reads the words and the request, and prints the body.
 fn print_body(rt: &HostRuntime) -> Result<(), Fault> {
@@ -25,7 +25,7 @@ fn print_body(rt: &HostRuntime) -> Result<(), Fault> {
     };
     let mut request = Vec::new(rt.alloc());
     rt.stdin()
-        .take(LONGEST_REQUEST)
+        .take(ENOUGH)
         .read_to_end(&mut request)
         .map_err(Fault::Input)?;
     let body = body_for(rt.alloc(), &wanted, request.as_slice())?;

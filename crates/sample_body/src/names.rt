@@ -1,37 +1,14 @@
 //! Whether names can stand in a certificate.
-ghost use Rattle.std.specs.Prelude.{◌≡◌, ◌≤◌, ◌↔◌, length, IsTrue, IfOk, IfErr, OnOk};
+ghost use Rattle.std.specs.Prelude.{◌≡◌, ◌↔◌, IsTrue, IfOk, IfErr, OnOk};
 ghost use Rattle.std.specs.List.{AllByRecursion};
 ghost use Rattle.tbs_build.specs.Names.{IsShort};
 ghost use Rattle.tbs_build.specs.Plan as spec;
 ghost use Rattle.sample_body.specs.Sample.{CanStand, IsNamesFault};
 
 use crate::fault::Fault;
-use gate_base::{Address, NoMemory, Target};
-use names_core::target_text;
+use gate_base::{NoMemory, Target};
 use std::alloc::Global;
-
-/// No name's text is longer (RFC 1034, section 3.1).
-const LONGEST_NAME: usize = 253;
-
-fn has_room_for(text: &[u8]) -> bool
-    ensures { IsTrue result ↔ (length text.now ≤ 253) }
-{
-    text.len() <= LONGEST_NAME
-}
-
-fn is_short(alloc: Global, target: &Target) -> Result<bool, NoMemory>
-    ensures { IfOk result (λ short. IsTrue short ↔ IsShort target.now) }
-{
-    match target {
-        Target::Dns(_) => {
-            let mut text = Vec::new(alloc);
-            target_text(target, &mut text)?;
-            Ok(has_room_for(&text))
-        }
-        Target::Ip(Address::V4(octets)) => Ok(has_room_for(octets)),
-        Target::Ip(Address::V6(octets)) => Ok(has_room_for(octets)),
-    }
-}
+use tbs_build::is_short;
 
 fn are_short(alloc: Global, targets: &[Target]) -> Result<bool, NoMemory>
     ensures { IfOk result (λ short. IsTrue short ↔ AllByRecursion IsShort targets.now) }

@@ -1,6 +1,7 @@
 //! The profile of the example.
 ghost use Rattle.std.specs.Prelude.{◌≡◌, IfOk};
-ghost use Rattle.tbs_build.specs.Profile.{IsIssuerName, IsSoundProfile};
+ghost use Rattle.cert_fields.specs.Profile.{IsIssuerName, IsSoundProfile};
+ghost use Rattle.sample_body.specs.Sample.{IsExample};
 
 use gate_base::{Bytes, NoMemory, Profile, SigAlg, Sixteen4};
 use std::alloc::Global;
@@ -10,7 +11,8 @@ const ISSUER: &[u8] = b"0\x121\x100\x0e\x06\x03U\x04\x03\x0c\x07Gate CA";
 
 #[tactic(auto, using(crate::proofs::GateCa::gate_ca_is_issuer))]
 fn issuer(alloc: Global) -> Result<Bytes, NoMemory>
-    ensures { IfOk result (λ issuer. IsIssuerName issuer) }
+    ensures name { IfOk result (λ issuer. IsIssuerName issuer) }
+    ensures bytes { IfOk result (λ issuer. issuer ≡ ISSUER.now) }
 {
     Bytes::from_slice(alloc, ISSUER)
 }
@@ -18,7 +20,7 @@ fn issuer(alloc: Global) -> Result<Bytes, NoMemory>
 /// The example's profile, which signs by this algorithm.
 pub fn example_profile(alloc: Global, alg: SigAlg) -> Result<Profile, NoMemory>
     ensures sound { IfOk result (λ profile. IsSoundProfile profile) }
-    ensures alg { IfOk result (λ profile. profile.alg ≡ alg) }
+    ensures example { IfOk result (IsExample alg) }
 {
     Ok(Profile {
         issuer: issuer(alloc)?,

@@ -14,6 +14,9 @@ use tbs_build::{Plan, build};
 /// 47 days, of which the first second and the last one count (RFC 5280, section 4.1.2.5).
 const VALID_FOR: u64 = 47 * 86_400 - 1;
 
+/// A request may have so many bytes.
+pub const LONGEST_REQUEST: usize = 16_384;
+
 /// A SubjectPublicKeyInfo may have so many bytes.
 const LONGEST_KEY: usize = 16_384;
 
@@ -24,6 +27,9 @@ pub fn body_for(alloc: Global, wanted: &Wanted, request: &[u8]) -> Result<Bytes,
     // Otherwise there is none.
     ensures err { IfErr result (IsWhy request.now wanted.now) }
 {
+    if request.len() > LONGEST_REQUEST {
+        return Err(Fault::Long);
+    }
     let fields = read_request(alloc, request)?;
     let Some(targets) = &fields.san else {
         return Err(Fault::NoNames);

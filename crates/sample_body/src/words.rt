@@ -1,7 +1,9 @@
 //! The words of the command line.
-ghost use Rattle.std.specs.Prelude.{◌≡◌, ◌≤◌, IsTrue, IfSome};
+ghost use Rattle.std.specs.Prelude.{◌≡◌, ◌≤◌, map, Ok, IsTrue, IfSome};
+ghost use Rattle.std.specs.String.{string_bytes};
+ghost use Rattle.hex.specs.Hex.{decode_sized};
 ghost use Rattle.tbs_build.specs.Plan.{IsSerial};
-ghost use Rattle.sample_body.specs.Sample.{CanBeMet};
+ghost use Rattle.sample_body.specs.Sample.{algorithm_word, subject_word, Asks, CanBeMet, IsSeconds};
 
 use gate_base::{Moment, SigAlg, Sixteen};
 use hex::FromHex;
@@ -32,7 +34,8 @@ fn is_serial(bytes: &[u8]) -> bool
 
 /// A serial number of 32 hexadecimal digits.
 fn read_serial(word: &str) -> Option<Sixteen>
-    ensures { IfSome result (λ serial. IsSerial serial.0) }
+    ensures good { IfSome result (λ serial. IsSerial serial.0) }
+    ensures number { IfSome result (λ serial. decode_sized word.now 16 ≡ Ok serial.0) }
 {
     let bytes = <[u8; 16] as FromHex>::from_hex(word).ok()?;
     if is_serial(&bytes) {
@@ -44,7 +47,8 @@ fn read_serial(word: &str) -> Option<Sixteen>
 
 /// Seconds since 1970.
 fn read_begin(word: &str) -> Option<Moment>
-    ensures { IfSome result (λ begin. begin.0 ≤ 253398240000) }
+    ensures early { IfSome result (λ begin. begin.0 ≤ 253398240000) }
+    ensures number { IfSome result (λ begin. IsSeconds word.now begin.0) }
 {
     match word.parse::<u64>() {
         Ok(seconds) if seconds <= LAST_BEGIN => Some(Moment(seconds)),
@@ -52,7 +56,9 @@ fn read_begin(word: &str) -> Option<Moment>
     }
 }
 
-fn read_subject(word: &str) -> Option<bool> {
+fn read_subject(word: &str) -> Option<bool>
+    ensures { IfSome result (λ common. word.now ≡ subject_word common) }
+{
     match word {
         "empty-subject" => Some(false),
         "common-name" => Some(true),
@@ -60,9 +66,12 @@ fn read_subject(word: &str) -> Option<bool> {
     }
 }
 
-fn read_algorithm(word: &str) -> Option<SigAlg> {
+fn read_algorithm(word: &str) -> Option<SigAlg>
+    ensures { IfSome result (λ alg. word.now ≡ algorithm_word alg) }
+{
     match word {
         "ecdsa-with-SHA256" => Some(SigAlg::EcdsaSha256),
+        "ecdsa-with-SHA384" => Some(SigAlg::EcdsaSha384),
         "sha256WithRSAEncryption" => Some(SigAlg::RsaSha256),
         _ => None,
     }
@@ -70,7 +79,8 @@ fn read_algorithm(word: &str) -> Option<SigAlg> {
 
 /// What the words ask for; the first word is the program's name.
 pub fn read_words(words: &[String]) -> Option<Wanted>
-    ensures { IfSome result (λ wanted. CanBeMet wanted) }
+    ensures met { IfSome result (λ wanted. CanBeMet wanted) }
+    ensures asked { IfSome result (Asks (map string_bytes words.now)) }
 {
     let [_, serial, begin, subject, algorithm] = words else {
         return None;

@@ -7,7 +7,7 @@ use Rattle.gate_base.specs.declared.profile.KeyKind.TheVariants.{Rsa, P256, P384
 use Rattle.gate_base.specs.declared.profile.SigAlg.{SigAlg}
 use Rattle.gate_base.specs.declared.profile.SigAlg.TheVariants.{RsaSha256, EcdsaSha256, EcdsaSha384}
 use Rattle.der_text.specs.Tree.{Node}
-use Rattle.public_key.specs.Key.{rsa_tree, is_positive, is_modulus, is_exponent, AreBitsOf, algorithm_bytes as key_algorithm_bytes}
+use Rattle.public_key.specs.Key.{rsa_tree, is_positive, is_modulus, is_exponent, AreBitsOf, kind_of, algorithm_bytes as key_algorithm_bytes}
 use Rattle.tbs_build.specs.Certificate.{algorithm_bytes}
 use Rattle.tbs_build.specs.Plan.{IsSerial}
 use Rattle.profile_lint.specs.Identifiers as identifiers
@@ -43,7 +43,7 @@ country_is_kept false text = refl
 
 -- ---- the key
 
-pub kind_is_named : (kind : KeyKind) → rules.kind_of (key_algorithm_bytes kind) ≡ Some kind
+pub kind_is_named : (kind : KeyKind) → kind_of (key_algorithm_bytes kind) ≡ Some kind
 kind_is_named Rsa = refl
 kind_is_named P256 = refl
 kind_is_named P384 = refl

@@ -5,4 +5,6 @@ mod Lists
 mod Keys
 mod Values
 mod Rules
-mod ShortestName
+mod Texts
+mod Names
+mod Good

@@ -9,10 +9,10 @@ use Rattle.gate_base.specs.declared.name.Target.TheVariants.{Dns, Ip}
 use Rattle.gate_base.specs.declared.profile.KeyKind.{KeyKind}
 use Rattle.gate_base.specs.declared.profile.KeyKind.TheVariants.{Rsa, P256, P384, P521}
 use Rattle.der_text.specs.Tree.{length_octets, element, spelling}
-use Rattle.public_key.specs.Parts.{are_none}
+use Rattle.der_text.specs.Parts.{are_none}
 use Rattle.tbs_build.specs.Extension.{Extension as Built, authority_key_identifier, key_usage, extended_key_usage, subject_alt_name, certificate_policies, crl_distribution_points, authority_info_access}
 use Rattle.tbs_build.specs.Names.{general_names}
-use Rattle.tbs_build.specs.Profile.{is_address}
+use Rattle.cert_fields.specs.Profile.{is_address}
 use Rattle.profile_lint.specs.Contents.{Judged}
 use Rattle.profile_lint.specs.Names.{is_general_name, bool_eq}
 use Rattle.profile_lint.specs.Parts.{all_parts}

@@ -1,22 +1,22 @@
-ghost use Rattle.std.specs.Prelude.{◌≡◌, ◌≤◌, length, IsTrue, IfOk};
+ghost use Rattle.std.specs.Prelude.{◌≡◌, length, IsTrue, IfOk};
 ghost use Rattle.std.specs.List.{AllByRecursion};
 ghost use Rattle.public_key.specs.Key.{IsKeyOf};
 ghost use Rattle.tbs_build.specs.Names.{IsShort};
 ghost use Rattle.tbs_build.specs.Plan.{IsSound, plan_of};
-ghost use Rattle.tbs_build.specs.Profile.{IsIssuerName, IsSoundProfile};
+ghost use Rattle.cert_fields.specs.Profile.{IsSoundProfile};
 ghost use Rattle.sound_body.specs.Rules.{CanBeBroken, HasItsOctets};
 
 use crate::the_lint_of_a_sound_body;
+use cert_fields::is_sound_profile;
 use gate_base::{
     Address, Bytes, KeyKind, Moment, NoMemory, Profile, Rules, SigAlg, Sixteen, Sixteen4, Target,
     Targets,
 };
-use names_core::{Suffixes, read_target, target_text};
+use names_core::{Suffixes, read_target};
 use profile_lint::lint_body;
 use public_key::read_key_kind;
 use std::alloc::Global;
-use std::test::Fail;
-use tbs_build::{Plan, build};
+use tbs_build::{Plan, build, is_short};
 
 const SERIAL: Sixteen = Sixteen([0x40, 0, 0, 0, 0, 0, 0, 0, 0, 0, 0, 0, 0, 0, 0, 0]);
 
@@ -32,26 +32,6 @@ const P256_KEY: &[u8] =
 
 /// 2026-09-21T14:13:20Z, when 200 days are allowed.
 const NOW: Moment = Moment(1_790_000_000);
-
-fn is_at_most_253(bytes: &[u8]) -> bool
-    ensures { IsTrue result → length bytes.now ≤ 253 }
-{
-    bytes.len() <= 253
-}
-
-fn is_short(alloc: Global, target: &Target) -> Result<bool, NoMemory>
-    ensures { IfOk result (λ short. IsTrue short → IsShort target.now) }
-{
-    match target {
-        Target::Dns(_) => {
-            let mut text = Vec::new(alloc);
-            target_text(target, &mut text)?;
-            Ok(is_at_most_253(&text))
-        }
-        Target::Ip(Address::V4(octets)) => Ok(is_at_most_253(octets)),
-        Target::Ip(Address::V6(octets)) => Ok(is_at_most_253(octets)),
-    }
-}
 
 fn has_length(octets: &[u8], len: usize) -> bool
     ensures { IsTrue result → length octets.now ≡ len }
@@ -85,23 +65,21 @@ fn one(alloc: Global, text: &[u8]) -> Result<Targets, NoMemory>
     Ok(targets)
 }
 
-#[tactic(auto, using(crate::proofs::ShortestName::is_issuer))]
-fn issuer(alloc: Global) -> Result<Bytes, NoMemory>
-    ensures { IfOk result (λ issuer. IsIssuerName issuer) }
-{
-    Bytes::from_slice(alloc, ISSUER)
-}
-
 fn profile(alloc: Global) -> Result<Profile, NoMemory>
     ensures { IfOk result (λ profile. IsSoundProfile profile) }
 {
-    Ok(Profile {
-        issuer: issuer(alloc)?,
+    let profile = Profile {
+        issuer: Bytes::from_slice(alloc, ISSUER)?,
         alg: SigAlg::EcdsaSha384,
         key_id: Sixteen4([0x22; 20]),
         crl: Bytes::from_slice(alloc, b"http://c.example/1.crl")?,
         aia: Bytes::from_slice(alloc, b"http://c.example/1.cer")?,
-    })
+    };
+    if is_sound_profile(alloc, &profile)? {
+        Ok(profile)
+    } else {
+        Err(NoMemory)
+    }
 }
 
 fn key_kind(alloc: Global, spki: &[u8]) -> Result<KeyKind, NoMemory>
@@ -153,27 +131,24 @@ fn lint_of(alloc: Global, text: &[u8], seconds: u32) -> Result<Rules, NoMemory>
     lint_at_first(alloc, &plan, &suffixes)
 }
 
-#[test]
-fn a_sound_body_breaks_no_rule(rt: HostRuntime) -> Result<(), Fail> {
-    // 47 days, and 200
-    for seconds in [4_060_799, 17_279_999] {
-        let rules = lint_of(rt.alloc(), b"example.com", seconds).expect(&rt, "memory");
-        assert_eq!(rt; rules.as_slice(), &[][..], "{seconds} seconds");
-    }
-    Ok(())
+/// Whether these are the rules that the body for a target breaks.
+fn breaks(alloc: Global, text: &[u8], seconds: u32, want: &[u8]) -> Result<bool, NoMemory> {
+    Ok(lint_of(alloc, text, seconds)?.as_slice() == want)
 }
 
 #[test]
-fn a_sound_body_breaks_what_depends_on_more(rt: HostRuntime) -> Result<(), Fail> {
-    let rows: [(&[u8], u32, &[u8]); 3] = [
+fn a_sound_body_breaks_what_depends_on_more(rt: HostRuntime) {
+    let rows: [(&[u8], u32, &[u8]); 5] = [
+        // 47 days, and 200
+        (b"example.com", 4_060_799, &[]),
+        (b"example.com", 17_279_999, &[]),
         // 200 days and a second
         (b"example.com", 17_280_000, &[7]),
         (b"com", 0, &[21]),
         (b"127.0.0.1", 0, &[22]),
     ];
     for (text, seconds, want) in rows {
-        let rules = lint_of(rt.alloc(), text, seconds).expect(&rt, "memory");
-        assert_eq!(rt; rules.as_slice(), want, "{seconds} seconds");
+        let right = breaks(rt.alloc(), text, seconds, want);
+        assert_eq!(rt; right, Ok(true), "{text:?} for {seconds} seconds");
     }
-    Ok(())
 }

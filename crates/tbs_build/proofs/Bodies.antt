@@ -1,5 +1,5 @@
 -- The body of a sound plan is in the form of DER.
-use Rattle.std.proofs.Common.{◌≡◌, ℕ, suc, ◌≤◌, ◌++◌, IsTrue, Bool, true, false, List, [], ◌∷◌, length, length-append, append_assoc, refl, sym, ap, subst, ◌∙◌, arith}
+use Rattle.std.proofs.Common.{◌≡◌, ℕ, suc, ◌+◌, ◌*◌, ◌^◌, ◌<◌, ◌≤◌, ◌++◌, IsTrue, Bool, true, false, List, [], ◌∷◌, length, length-append, append_assoc, refl, sym, ap, subst, ◌∙◌, arith}
 use Rattle.std.proofs.lemmas.List.{append-nil}
 use Rattle.gate_base.specs.declared.name.Target.{Target}
 use Rattle.gate_base.specs.declared.profile.KeyKind.{KeyKind}
@@ -94,10 +94,12 @@ subject_good plan sound =
 
 -- ---- the extensions
 
-extensions_good : (plan : Plan) → IsSound plan → Good 31 67469 (extensions plan)
-extensions_good plan sound =
-    good_constructed 30 0xa3 67463 _ fourth_tag refl (omega arith)
-    (only (good_constructed 29 48 67457 _ sequence_tag refl (omega arith) (all_good 27 plan sound)))
+extensions_good : (plan : Plan) (most : ℕ) → IsSound plan → length plan.targets ≤ most → most ≤ 255
+    → Good 31 (1424 + 259 * most) (extensions plan)
+extensions_good plan most sound count low =
+    at_most (good_constructed 30 0xa3 (1418 + 259 * most) _ fourth_tag refl (omega arith)
+    (all_at_most (only (good_constructed 29 48 (1412 + 259 * most) _ sequence_tag refl (omega arith)
+    (all_good 27 most plan sound count low))) (omega arith))) (omega arith)
 
 -- ---- the key
 
@@ -187,13 +189,14 @@ issuer_good plan sound =
     let issuer = sound.profile.issuer in
     record { form = issuer.form; size = subst (λ (b : List ℕ). length b ≤ 1024) issuer.spelled issuer.short }
 
-body_good : (plan : Plan) (sound : IsSound plan)
-    → Good 32 86000 (body_tree plan (issuer_node plan sound) (key_node plan sound))
-body_good plan sound =
-    at_most (good_constructed 31 48 85292 _ sequence_tag refl (omega arith)
-    (and version_good (and (serial_good plan sound) (and (algorithm_good plan.profile.alg) (and (issuer_good plan sound)
-    (and (validity_good plan) (and (subject_good plan sound)
-    (and (key_good plan sound) (only (extensions_good plan sound)))))))))) (omega arith)
+-- with at most so many targets
+body_good : (plan : Plan) (sound : IsSound plan) (most : ℕ) → length plan.targets ≤ most → most ≤ 255
+    → Good 32 (19253 + 259 * most) (body_tree plan (issuer_node plan sound) (key_node plan sound))
+body_good plan sound most count low =
+    at_most (good_constructed 31 48 (19247 + 259 * most) _ sequence_tag refl (omega arith)
+    (all_at_most (and version_good (and (serial_good plan sound) (and (algorithm_good plan.profile.alg)
+    (and (issuer_good plan sound) (and (validity_good plan) (and (subject_good plan sound)
+    (and (key_good plan sound) (only (extensions_good plan most sound count low))))))))) (omega arith))) (omega arith)
 
 spelling-algorithm : (alg : SigAlg) → spelling (algorithm_tree alg) ≡ algorithm_bytes alg
 unfolding length_octets
@@ -236,8 +239,14 @@ unfolding tree_of issuer_node
 body_is_der plan sound = record {
   spelled = body_spelled plan (issuer_node plan sound) (key_node plan sound) (sym sound.profile.issuer.spelled)
       (spelling-key_node plan sound);
-  form = (body_good plan sound).form;
+  form = (body_good plan sound 255 sound.count (omega arith)).form;
 }
+
+pub body_is_short : (plan : Plan) → IsSound plan → length plan.targets ≤ 100 → length (body_of plan) < 2 ^ 16
+unfolding tree_of
+body_is_short plan sound few =
+    let good = body_good plan sound 100 few (omega arith) in
+    subst (λ (b : List ℕ). length b < 2 ^ 16) (sym (body_is_der plan sound).spelled) (omega (arith, good.size))
 
 pub is_body_tree : (plan : Plan) (sound : IsSound plan) → IsBodyTree plan (tree_of plan sound)
 unfolding tree_of issuer_node

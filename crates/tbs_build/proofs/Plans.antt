@@ -7,7 +7,7 @@ use Rattle.gate_base.specs.declared.name.Target.TheVariants.{Dns, Ip}
 use Rattle.names_core.specs.Target.{target_text}
 use Rattle.tbs_build.specs.Names.{IsShort}
 use Rattle.tbs_build.specs.Plan.{Plan, IsSound, begins_with_name}
-use Rattle.tbs_build.specs.Profile.{is_address}
+use Rattle.cert_fields.specs.Profile.{is_address}
 
 pub address_is_short : (text : List ℕ) → IsTrue (is_address text) → length text ≤ 512
 address_is_short text is = leb-true _ _ ((and_parts _ _ ((and_parts _ _ is).0)).0)

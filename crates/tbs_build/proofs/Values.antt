@@ -104,11 +104,11 @@ extended_key_usage_is = record {
   rule = refl;
 }
 
-alt_name_is : (common : Bool) (targets : List Target) → length targets ≤ 255 → AllByRecursion IsShort targets
-    → IsWritable 66051 (subject_alt_name common targets)
+alt_name_is : (common : Bool) (targets : List Target) (most : ℕ) → length targets ≤ most → most ≤ 255
+    → AllByRecursion IsShort targets → IsWritable (6 + 259 * most) (subject_alt_name common targets)
 unfolding keeps_rule is_primitive_content
-alt_name_is common targets count short = record {
-  value = good_constructed 31 48 66045 _ sequence_tag refl (omega arith)
+alt_name_is common targets most count low short = record {
+  value = good_constructed 31 48 (259 * most) _ sequence_tag refl (omega arith)
       (all_at_most (names_good 30 targets short) (omega arith));
   short = omega arith;
   rule = refl;
@@ -163,7 +163,7 @@ all_spelled plan sound = (
     (
       spelled extended_key_usage_is,
       (
-        spelled (alt_name_is plan.common plan.targets sound.count sound.short),
+        spelled (alt_name_is plan.common plan.targets 255 sound.count (omega arith) sound.short),
         (
           spelled policies_are,
           (
@@ -179,15 +179,17 @@ all_spelled plan sound = (
   ),
 )
 
-pub all_good : (levels : ℕ) (plan : Plan) → IsSound plan
-    → AllGood (suc (suc levels)) 67457 (extension_trees (extensions_of plan))
-all_good levels plan sound =
-    and (extension_good levels 32 _ (omega arith) (key_identifier_is plan.profile.key_id.0 sound.profile.key_id))
+-- of at most so many targets
+pub all_good : (levels most : ℕ) (plan : Plan) → IsSound plan → length plan.targets ≤ most → most ≤ 255
+    → AllGood (suc (suc levels)) (1412 + 259 * most) (extension_trees (extensions_of plan))
+all_good levels most plan sound count low =
+    all_at_most (and (extension_good levels 32 _ (omega arith) (key_identifier_is plan.profile.key_id.0 sound.profile.key_id))
     (and (extension_good levels 8 _ (omega arith) (key_usage_is plan.kind))
     (and (extension_good levels 21 _ (omega arith) extended_key_usage_is)
-    (and (extension_good levels 66051 _ (omega arith) (alt_name_is plan.common plan.targets sound.count sound.short))
+    (and (extension_good levels (6 + 259 * most) _ (omega arith)
+    (alt_name_is plan.common plan.targets most count low sound.short))
     (and (extension_good levels 27 _ (omega arith) policies_are)
     (and (extension_good levels 542 _ (omega arith)
     (points_are plan.profile.crl (address_is_short _ sound.profile.crl)))
     (only (extension_good levels 545 _ (omega arith)
-    (access_is plan.profile.aia (address_is_short _ sound.profile.aia)))))))))
+    (access_is plan.profile.aia (address_is_short _ sound.profile.aia)))))))))) (omega arith)

@@ -58,7 +58,7 @@ abbrev pub first_text : List Target → List ℕ
 first_text [] = []
 first_text (first ∷ rest) = target_text first
 
--- an empty subject, or the text of the first target (section 4.1.2.6; BR, section 7.1.4.3)
+-- an empty subject, or the text of the first target (section 4.1.2.6; BR 2.1.5, section 7.1.4.3)
 abbrev pub subject_parts : Plan → Nodes
 subject_parts plan = if plan.common then alone (common_name (first_text plan.targets)) else no_nodes
 

@@ -4,7 +4,7 @@ use Rattle.gate_base.specs.declared.profile.SigAlg.{SigAlg}
 use Rattle.gate_base.specs.declared.profile.SigAlg.TheVariants.{RsaSha256, EcdsaSha256, EcdsaSha384}
 use Rattle.der_text.specs.Tree.{element}
 
--- the bytes of the algorithm (BR, section 7.1.3.2): sha256WithRSAEncryption with NULL, or ecdsa-with-SHA256 or -SHA384
+-- the bytes of the algorithm (BR 2.1.5, section 7.1.3.2): sha256WithRSAEncryption with NULL, or ecdsa-with-SHA256 or -SHA384
 abbrev pub algorithm_bytes : SigAlg → List ℕ
 algorithm_bytes RsaSha256 =
     0x30 ∷ 0x0d ∷ 0x06 ∷ 0x09 ∷ 0x2a ∷ 0x86 ∷ 0x48 ∷ 0x86 ∷ 0xf7 ∷ 0x0d ∷ 0x01 ∷ 0x01 ∷ 0x0b ∷ 0x05 ∷ 0x00 ∷ []

@@ -1,4 +1,4 @@
--- The extensions of a certificate. The sections are those of RFC 5280; BR (section 7.1.2.7.6) says which of them a
+-- The extensions of a certificate. The sections are those of RFC 5280; BR 2.1.5 (section 7.1.2.7.6) says which of them a
 -- subscriber's certificate has, and which are critical.
 use Rattle.std.specs.Prelude.{ℕ, Bool, true, false, not, List, [], ◌∷◌, ◌++◌, map}
 use Rattle.gate_base.specs.declared.name.Target.{Target}
@@ -35,7 +35,7 @@ extension_tree e = extension_with e.identifier e.critical (spelling e.value)
 
 -- ---- the seven extensions
 
--- the identifier of the authority's key (section 4.2.1.1), [0] of the SEQUENCE
+-- the identifier of the authority's key (section 4.2.1.1; BR 2.1.5, section 7.1.2.11.1), [0] of the SEQUENCE
 abbrev pub authority_key_identifier : List ℕ → Extension
 authority_key_identifier key_id =
     record {
@@ -44,7 +44,8 @@ authority_key_identifier key_id =
       value = constructed 48 (alone (primitive 0x80 key_id));
     }
 
--- digitalSignature, bit 0, and for an RSA key keyEncipherment too, bit 2; the unused bits come first (section 4.2.1.3)
+-- digitalSignature, bit 0, and for an RSA key keyEncipherment too, bit 2; the number of unused bits comes first (section 4.2.1.3;
+-- BR 2.1.5, section 7.1.2.7.11)
 abbrev pub usage_bits : KeyKind → List ℕ
 usage_bits Rsa = 0x05 ∷ 0xa0 ∷ []
 usage_bits P256 = 0x07 ∷ 0x80 ∷ []
@@ -54,7 +55,7 @@ usage_bits P521 = 0x07 ∷ 0x80 ∷ []
 abbrev pub key_usage : KeyKind → Extension
 key_usage kind = record { identifier = 0x55 ∷ 0x1d ∷ 0x0f ∷ []; critical = true; value = primitive 3 (usage_bits kind) }
 
--- id-kp-serverAuth, 1.3.6.1.5.5.7.3.1 (section 4.2.1.12)
+-- id-kp-serverAuth, 1.3.6.1.5.5.7.3.1 (section 4.2.1.12; BR 2.1.5, section 7.1.2.7.10)
 abbrev pub server_auth : List ℕ
 server_auth = 0x2b ∷ 0x06 ∷ 0x01 ∷ 0x05 ∷ 0x05 ∷ 0x07 ∷ 0x03 ∷ 0x01 ∷ []
 
@@ -66,7 +67,7 @@ extended_key_usage =
       value = constructed 48 (alone (primitive 6 server_auth));
     }
 
--- the names in the targets' order; critical exactly where the subject is empty (section 4.2.1.6)
+-- the names in the targets' order; critical exactly if the subject is empty (section 4.2.1.6; BR 2.1.5, section 7.1.2.7.12)
 abbrev pub subject_alt_name : Bool → List Target → Extension
 subject_alt_name common targets =
     record {
@@ -75,11 +76,11 @@ subject_alt_name common targets =
       value = constructed 48 (general_names targets);
     }
 
--- the policy domain-validated of BR (section 7.1.6.1), 2.23.140.1.2.1
+-- the policy domain-validated of BR 2.1.5 (section 7.1.6.1), 2.23.140.1.2.1
 abbrev pub domain_validated : List ℕ
 domain_validated = 0x67 ∷ 0x81 ∷ 0x0c ∷ 0x01 ∷ 0x02 ∷ 0x01 ∷ []
 
--- one PolicyInformation without qualifiers (section 4.2.1.4)
+-- one PolicyInformation without qualifiers (section 4.2.1.4; BR 2.1.5, section 7.1.2.7.9)
 abbrev pub certificate_policies : Extension
 certificate_policies =
     record {
@@ -96,7 +97,7 @@ uri address = primitive 0x86 address
 abbrev pub point_name : List ℕ → Node
 point_name address = constructed 0xa0 (alone (constructed 0xa0 (alone (uri address))))
 
--- one DistributionPoint with nothing beside its name (section 4.2.1.13)
+-- one DistributionPoint with nothing beside its name (section 4.2.1.13; BR 2.1.5, section 7.1.2.11.2)
 abbrev pub crl_distribution_points : List ℕ → Extension
 crl_distribution_points address =
     record {
@@ -109,7 +110,7 @@ crl_distribution_points address =
 abbrev pub ca_issuers : List ℕ
 ca_issuers = 0x2b ∷ 0x06 ∷ 0x01 ∷ 0x05 ∷ 0x05 ∷ 0x07 ∷ 0x30 ∷ 0x02 ∷ []
 
--- one AccessDescription (section 4.2.2.1)
+-- one AccessDescription (section 4.2.2.1; BR 2.1.5, section 7.1.2.7.7)
 abbrev pub authority_info_access : List ℕ → Extension
 authority_info_access address =
     record {

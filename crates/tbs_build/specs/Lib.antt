@@ -3,5 +3,4 @@ pub mod Certificate
 pub mod Extension
 pub mod Names
 pub mod Plan
-pub mod Profile
 pub mod Small

@@ -8,7 +8,7 @@ use Rattle.gate_base.specs.declared.profile.Profile.{Profile}
 use Rattle.public_key.specs.Key.{IsKeyOf}
 use Rattle.tbs_build.specs.declared.plan.Plan.{Plan as PlanValue}
 use Rattle.tbs_build.specs.Names.{IsShort}
-use Rattle.tbs_build.specs.Profile.{IsSoundProfile}
+use Rattle.cert_fields.specs.Profile.{IsSoundProfile}
 
 -- moments are in seconds since 1970
 pub record Plan : Type 0 where
@@ -33,7 +33,7 @@ plan_of p = record {
   profile = p.profile.now;
 }
 
--- The first byte is 40 to 7f: the number is positive (RFC 5280, section 4.1.2.2), and none of its bytes can be left
+-- The first byte is 40 to 7f: the number is positive (RFC 5280, section 4.1.2.2; BR 2.1.5, section 7.1.2.7), and none of its bytes can be left
 -- out.
 abbrev pub IsSerial : List ℕ → Type 0
 IsSerial [] = ⊥

@@ -1,4 +1,4 @@
--- The small body: who a certificate is for, and under which serial number.
+-- The provisional body: the names that a certificate is for, and its serial number. It is no TBSCertificate.
 use Rattle.std.specs.Prelude.{ℕ, List}
 use Rattle.gate_base.specs.declared.name.Target.{Target}
 use Rattle.der_text.specs.Tree.{Node, primitive, constructed, no_nodes, also}

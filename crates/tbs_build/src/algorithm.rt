@@ -1,4 +1,5 @@
-//! The algorithms of signatures, as DER.
+//! The algorithms of signatures, as DER. The lint has its own constants, on purpose: a mistake in one must not be hidden
+//! by the other.
 ghost use Rattle.std.specs.Prelude.{◌≡◌, ◌≤◌, length};
 ghost use Rattle.tbs_build.specs.Certificate as spec;
 

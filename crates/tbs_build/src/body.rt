@@ -8,15 +8,15 @@ ghost use Rattle.tbs_build.specs.Extension.{about_key_and_names, about_policy_an
 ghost use Rattle.tbs_build.specs.Plan.{plan_of, IsSound};
 
 use crate::algorithm::algorithm_bytes;
-use crate::element::{
-    INTEGER, OBJECT_IDENTIFIER, SEQUENCE, SET, UTF8_STRING, push_element, push_wrapped, wrapped,
-};
+use crate::element::{push_element, push_wrapped, wrapped};
 use crate::extension::{
     push_authority_info_access, push_authority_key_identifier, push_certificate_policies,
     push_crl_distribution_points, push_extended_key_usage, push_key_usage, push_subject_alt_name,
 };
+use crate::laws::a_body_of_few_targets_is_short;
 use crate::plan::Plan;
 use cert_time::time_of;
+use der_text::tag::{INTEGER, OBJECT_IDENTIFIER, SEQUENCE, SET, UTF8_STRING};
 use gate_base::{Bytes, Moment, NoMemory, Target};
 use names_core::target_text;
 use std::alloc::Global;
@@ -164,9 +164,9 @@ fn push_extensions(p: &Plan<'_>, out: &mut Vec<u8>) -> Result<(), NoMemory>
     push_wrapped(EXTENSIONS, &sequence, out)
 }
 
-/// The bytes of the body that a sound plan has.
-pub fn build(alloc: Global, p: &Plan<'_>) -> Result<Bytes, NoMemory>
-    requires sound { IsSound (plan_of p.now) }
+/// The bytes of the body.
+fn body_bytes(alloc: Global, p: &Plan<'_>) -> Result<Bytes, NoMemory>
+    requires { IsSound (plan_of p.now) }
     ensures body { IfOk result (λ body. body ≡ body_of (plan_of p.now)) }
     ensures few { IfOk result (λ body. length body ≤ 2 ^ 17) }
 {
@@ -178,4 +178,17 @@ pub fn build(alloc: Global, p: &Plan<'_>) -> Result<Bytes, NoMemory>
     let mut body = Vec::new(alloc);
     push_element(SEQUENCE, &content, &mut body)?;
     Ok(Bytes::from_vec(body))
+}
+
+/// The bytes of the body that a sound plan has.
+pub fn build(alloc: Global, p: &Plan<'_>) -> Result<Bytes, NoMemory>
+    requires sound { IsSound (plan_of p.now) }
+    ensures body { IfOk result (λ body. body ≡ body_of (plan_of p.now)) }
+    ensures few { IfOk result (λ body. length body ≤ 2 ^ 17) }
+    // A number of two bytes counts the bytes of a body of at most 100 targets.
+    ensures few_targets { IfOk result (λ body. length p.now.targets.now ≤ 100 → length body < 2 ^ 16) }
+{
+    a_body_of_few_targets_is_short();
+    let body = body_bytes(alloc, p)?;
+    Ok(body)
 }

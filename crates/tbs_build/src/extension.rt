@@ -1,4 +1,5 @@
-//! The extensions of a certificate (RFC 5280, section 4.2), each written with its value.
+//! The extensions of a certificate (RFC 5280, section 4.2), each written with its value. The constants and the values
+//! stand here and once more in the lint, on purpose: a mistake in one must not be hidden by the other.
 ghost use Rattle.std.specs.Prelude.{◌≡◌, ◌+◌, ◌*◌, ◌^◌, ◌<◌, ◌≤◌, ◌++◌, length, IfOk, OnOk};
 ghost use Rattle.std.specs.List.{AllByRecursion};
 ghost use Rattle.der_text.specs.Tree.{no_nodes, spelling, spellings};
@@ -6,10 +7,9 @@ ghost use Rattle.tbs_build.specs.Extension as spec;
 ghost use Rattle.tbs_build.specs.Extension.{extension_tree, extension_with};
 ghost use Rattle.tbs_build.specs.Names.{IsShort};
 
-use crate::element::{
-    BOOLEAN, OBJECT_IDENTIFIER, OCTET_STRING, SEQUENCE, push_element, push_wrapped, wrapped,
-};
+use crate::element::{push_element, push_wrapped, wrapped};
 use crate::names::names_of;
+use der_text::tag::{BOOLEAN, OBJECT_IDENTIFIER, OCTET_STRING, SEQUENCE};
 use gate_base::{KeyKind, NoMemory, Sixteen4, Targets};
 use std::alloc::Global;
 

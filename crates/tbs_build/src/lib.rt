@@ -12,7 +12,8 @@ mod signing;
 mod small;
 
 pub use body::build;
-pub use laws::a_body_is_read;
+pub use laws::{a_body_is_read, a_body_of_few_targets_is_short};
+pub use names::is_short;
 pub use plan::Plan;
 pub use signing::{certificate, certificate_len};
 pub use small::small_body;

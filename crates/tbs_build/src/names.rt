@@ -1,5 +1,5 @@
 //! Targets as names.
-ghost use Rattle.std.specs.Prelude.{◌≡◌, ℕ, List, ◌+◌, ◌*◌, ◌≤◌, ◌++◌, length, IfOk, OnOk};
+ghost use Rattle.std.specs.Prelude.{◌≡◌, ◌↔◌, ℕ, List, ◌+◌, ◌*◌, ◌≤◌, ◌++◌, length, IsTrue, IfOk, OnOk};
 ghost use Rattle.std.specs.List.{AllByRecursion};
 ghost use Rattle.der_text.specs.Tree.{spelling, spellings};
 ghost use Rattle.tbs_build.specs.Names.{general_name, general_names, IsShort};
@@ -14,6 +14,30 @@ const DNS_NAME: u8 = 0x82;
 
 /// The tag of an iPAddress.
 const IP_ADDRESS: u8 = 0x87;
+
+/// No GeneralName's content is longer: a domain name has at most 253 bytes (RFC 1034, section 3.1).
+const LONGEST_NAME: usize = 253;
+
+fn has_room_for(text: &[u8]) -> bool
+    ensures { IsTrue result ↔ (length text.now ≤ 253) }
+{
+    text.len() <= LONGEST_NAME
+}
+
+/// Whether a target is short enough to stand in a plan. Each target that was read from a text is.
+pub fn is_short(alloc: Global, target: &Target) -> Result<bool, NoMemory>
+    ensures { IfOk result (λ short. IsTrue short ↔ IsShort target.now) }
+{
+    match target {
+        Target::Dns(_) => {
+            let mut text = Vec::new(alloc);
+            target_text(target, &mut text)?;
+            Ok(has_room_for(&text))
+        }
+        Target::Ip(Address::V4(octets)) => Ok(has_room_for(octets)),
+        Target::Ip(Address::V6(octets)) => Ok(has_room_for(octets)),
+    }
+}
 
 /// Appends a target as a name.
 fn push_name(target: &Target, out: &mut Vec<u8>) -> Result<(), NoMemory>

@@ -5,13 +5,8 @@ ghost use Rattle.tbs_build.specs.Certificate as spec;
 ghost use Rattle.tbs_build.specs.Certificate.{bit_string, certificate_of};
 
 use crate::algorithm::algorithm_bytes;
+use der_text::tag::{BIT_STRING, SEQUENCE};
 use gate_base::{NoMemory, SigAlg};
-
-/// The tag of a SEQUENCE.
-const SEQUENCE: u8 = 0x30;
-
-/// The tag of a BIT STRING.
-const BIT_STRING: u8 = 0x03;
 
 /// How many bytes an element with such a content has.
 #[tactic(auto, unfolding(der_text::specs::Tree::length_octets))]
@@ -20,13 +15,7 @@ fn element_len(len: u64) -> u64
     ensures exact { result ≡ 1 + length (length_octets len) + len }
     ensures most { result ≤ 6 + len }
 {
-    match len {
-        0..0x80 => 2 + len,
-        0x80..0x100 => 3 + len,
-        0x100..0x1_0000 => 4 + len,
-        0x1_0000..0x100_0000 => 5 + len,
-        _ => 6 + len,
-    }
+    der_text::element_len(len as usize) as u64
 }
 
 /// The length of a certificate's content.
@@ -50,7 +39,7 @@ pub fn certificate_len(body: &[u8], alg: SigAlg, signature_len: u64) -> u64
     element_len(content_len(body, alg, signature_len))
 }
 
-/// Appends a tag and the octets of a length.
+/// Appends a tag and the octets of a length, which takes no memory where there is room for them.
 #[tactic(auto, unfolding(der_text::specs::Tree::length_octets))]
 fn push_head(tag: u8, len: u64, out: &mut Vec<u8>) -> Result<(), NoMemory>
     requires { len < 2 ^ 32 }

@@ -4,8 +4,9 @@ ghost use Rattle.std.specs.List.{AllByRecursion};
 ghost use Rattle.der_text.specs.Tree.{element, IsDer};
 ghost use Rattle.tbs_build.specs.Small.{small_body_tree, IsSerial, IsShort};
 
-use crate::element::{INTEGER, SEQUENCE, push_element};
+use crate::element::push_element;
 use crate::names::names_of;
+use der_text::tag::{INTEGER, SEQUENCE};
 use gate_base::{Bytes, NoMemory, Sixteen, Targets};
 use std::alloc::Global;
 

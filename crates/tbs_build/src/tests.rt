@@ -3,13 +3,14 @@ ghost use Rattle.std.specs.List.{AllByRecursion};
 ghost use Rattle.public_key.specs.Key.{IsKeyOf};
 ghost use Rattle.tbs_build.specs.Names.{IsShort};
 ghost use Rattle.tbs_build.specs.Plan.{begins_with_name, is_name as spec_is_name};
-ghost use Rattle.tbs_build.specs.Profile.{is_address, IsIssuerName, IsSoundProfile};
+ghost use Rattle.cert_fields.specs.Profile.{IsSoundProfile};
 
-use crate::{Plan, build, certificate, certificate_len, small_body};
+use crate::{Plan, build, certificate, certificate_len, is_short, small_body};
+use cert_fields::is_sound_profile;
 use gate_base::{
     Address, Bytes, KeyKind, Moment, NoMemory, Profile, SigAlg, Sixteen, Sixteen4, Target, Targets,
 };
-use names_core::{read_target, target_text};
+use names_core::read_target;
 use public_key::read_key_kind;
 use std::alloc::Global;
 
@@ -101,30 +102,10 @@ fn target(alloc: Global, text: &[u8]) -> Result<Target, NoMemory> {
     }
 }
 
-fn is_at_most_253(bytes: &[u8]) -> bool
-    ensures { IsTrue result → length bytes.now ≤ 253 }
-{
-    bytes.len() <= 253
-}
-
 fn is_name(target: &Target) -> bool
     ensures { result ≡ spec_is_name target.now }
 {
     matches!(target, Target::Dns(_))
-}
-
-fn is_short(alloc: Global, target: &Target) -> Result<bool, NoMemory>
-    ensures { IfOk result (λ short. IsTrue short → IsShort target.now) }
-{
-    match target {
-        Target::Dns(_) => {
-            let mut text = Vec::new(alloc);
-            target_text(target, &mut text)?;
-            Ok(is_at_most_253(&text))
-        }
-        Target::Ip(Address::V4(octets)) => Ok(is_at_most_253(octets)),
-        Target::Ip(Address::V6(octets)) => Ok(is_at_most_253(octets)),
-    }
 }
 
 /// One target.
@@ -156,25 +137,21 @@ fn two(alloc: Global, text: &[u8], next: &[u8]) -> Result<Targets, NoMemory>
     Ok(targets)
 }
 
-/// The issuer's name.
-#[tactic(auto, using(crate::proofs::GateCa::gate_ca_is_issuer))]
-fn issuer(alloc: Global) -> Result<Bytes, NoMemory>
-    ensures { IfOk result (λ issuer. IsIssuerName issuer) }
-{
-    Bytes::from_slice(alloc, ISSUER)
-}
-
 fn profile(alloc: Global, alg: SigAlg, key: u8, crl: &[u8], aia: &[u8]) -> Result<Profile, NoMemory>
-    requires { IsTrue (is_address crl.now) × IsTrue (is_address aia.now) }
     ensures { IfOk result (λ profile. IsSoundProfile profile) }
 {
-    Ok(Profile {
-        issuer: issuer(alloc)?,
+    let profile = Profile {
+        issuer: Bytes::from_slice(alloc, ISSUER)?,
         alg,
         key_id: Sixteen4([key; 20]),
         crl: Bytes::from_slice(alloc, crl)?,
         aia: Bytes::from_slice(alloc, aia)?,
-    })
+    };
+    if is_sound_profile(alloc, &profile)? {
+        Ok(profile)
+    } else {
+        Err(NoMemory)
+    }
 }
 
 fn key_kind(alloc: Global, spki: &[u8]) -> Result<KeyKind, NoMemory>
@@ -186,7 +163,34 @@ fn key_kind(alloc: Global, spki: &[u8]) -> Result<KeyKind, NoMemory>
     }
 }
 
-fn plain_body(alloc: Global) -> Result<Bytes, NoMemory> {
+/// The addresses 8.8.8.0, 8.8.8.1 and so on.
+fn addresses(alloc: Global, count: u8) -> Result<Targets, NoMemory>
+    ensures count { IfOk result (λ targets. length targets ≡ count) }
+    ensures short { IfOk result (λ targets. AllByRecursion IsShort targets) }
+{
+    let mut targets = Targets::new(alloc);
+    for last in 0..count {
+        targets.push(address(alloc, last)?)?;
+    }
+    Ok(targets)
+}
+
+fn address(alloc: Global, last: u8) -> Result<Target, NoMemory>
+    ensures { IfOk result IsShort }
+{
+    let target = Target::Ip(Address::V4([8, 8, 8, last]));
+    if is_short(alloc, &target)? {
+        Ok(target)
+    } else {
+        Err(NoMemory)
+    }
+}
+
+fn body_for(alloc: Global, targets: &Targets) -> Result<Bytes, NoMemory>
+    requires some { 1 ≤ length targets.now }
+    requires count { length targets.now ≤ 255 }
+    requires short { AllByRecursion IsShort targets.now }
+{
     let profile = profile(
         alloc,
         SigAlg::EcdsaSha256,
@@ -200,11 +204,25 @@ fn plain_body(alloc: Global) -> Result<Bytes, NoMemory> {
         not_after: Moment(1_794_060_799),
         spki: P256_KEY,
         kind: key_kind(alloc, P256_KEY)?,
-        targets: &one(alloc, b"example.com")?,
+        targets,
         common: false,
         profile: &profile,
     };
     build(alloc, &plan)
+}
+
+fn plain_body(alloc: Global) -> Result<Bytes, NoMemory> {
+    let targets = one(alloc, b"example.com")?;
+    body_for(alloc, &targets)
+}
+
+/// How many bytes the body has for so many addresses.
+fn len_for(alloc: Global, count: u8) -> Result<usize, NoMemory> {
+    if count == 0 {
+        return Ok(0);
+    }
+    let targets = addresses(alloc, count)?;
+    Ok(body_for(alloc, &targets)?.len())
 }
 
 fn named_body(alloc: Global) -> Result<Bytes, NoMemory> {
@@ -276,12 +294,16 @@ fn a_small_body_has_its_bytes(rt: HostRuntime) {
 
 #[test]
 fn a_plan_has_its_body(rt: HostRuntime) {
-    let plain = plain_body(rt.alloc()).expect(&rt, "memory");
-    assert_eq!(rt; plain.as_slice(), PLAIN_BODY);
-    let named = named_body(rt.alloc()).expect(&rt, "memory");
-    assert_eq!(rt; named.as_slice(), NAMED_BODY);
+    let plain = plain_body(rt.alloc());
+    assert!(rt; plain.is_ok_and(|body| body.as_slice() == PLAIN_BODY));
+    let named = named_body(rt.alloc());
+    assert!(rt; named.is_ok_and(|body| body.as_slice() == NAMED_BODY));
     let certificate = certificate_of(rt.alloc(), PLAIN_BODY, SigAlg::EcdsaSha256, &[0x11; 32]);
     assert!(rt; certificate.is_ok_and(|bytes| bytes.len() == 452));
+    // each address takes six bytes
+    for (count, len) in [(100, 996), (101, 1002), (255, 1926)] {
+        assert_eq!(rt; len_for(rt.alloc(), count), Ok(len), "{count} addresses");
+    }
 }
 
 #[test]

@@ -1,7 +1,7 @@
 -- Which trees have the shape of a certificate's body (TBSCertificate, RFC 5280, section 4.1), and what they say.
 use Rattle.std.specs.Prelude.{◌≡◌, ℕ, ◌+◌, Bool, true, false, ◌||◌, ◌==◌, List, [], ◌∷◌, ◌++◌, Option, Some, None, option_map, if◌then◌else◌}
 use Rattle.der_text.specs.Tree.{Node, primitive, constructed, Nodes, no_nodes, also, spelling, IsDer, part_of}
-use Rattle.public_key.specs.Parts.{◌>>=◌, parts_with, primitive_at, constructed_at, are_none, at_end}
+use Rattle.der_text.specs.Parts.{◌>>=◌, parts_with, primitive_at, constructed_at, are_none, at_end}
 use Rattle.tbs_shape.specs.Body.{Primitive, Attribute, Extension, Body}
 
 -- ---- parts that may be left out

@@ -2,11 +2,11 @@
 ghost use Rattle.std.specs.Prelude.{◌≡◌, map, option_map};
 ghost use Rattle.tbs_shape.specs.View as shown;
 ghost use Rattle.der_text.specs.View.{nodes};
-ghost use Rattle.public_key.specs.Parts as parts_spec;
+ghost use Rattle.der_text.specs.Parts as parts_spec;
 
 use crate::layout::{Kept, Layout};
 use crate::value::{Attribute, Extension, Primitive};
-use public_key::are_none;
+use der_text::are_none;
 use std::marker::Model;
 
 /// The body of a certificate, part by part (RFC 5280, section 4.1). It borrows from the bytes that were read.

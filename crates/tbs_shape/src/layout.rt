@@ -7,14 +7,8 @@ ghost use Rattle.tbs_shape.specs.View as shown;
 
 use crate::parts::{take_element, take_present, take_version};
 use crate::value::Primitive;
-use der_text::{Tree, part_at};
-use public_key::{are_none, constructed_parts, take_constructed, take_primitive};
-
-const INTEGER: u8 = 0x02;
-
-const BIT_STRING: u8 = 0x03;
-
-pub const SEQUENCE: u8 = 0x30;
+use der_text::tag::{BIT_STRING, INTEGER, SEQUENCE};
+use der_text::{Tree, are_none, constructed_parts, part_at, take_constructed, take_primitive};
 
 const ISSUER_UNIQUE_ID: u8 = 0x81;
 

@@ -6,18 +6,11 @@ ghost use Rattle.tbs_shape.specs.Shape.{joined, each_of};
 ghost use Rattle.tbs_shape.specs.Told.{IfShape};
 
 use crate::fault::BodyFault;
-use crate::layout::SEQUENCE;
 use crate::parts::{take_critical, take_element};
 use crate::value::{Attribute, Extension};
-use der_text::Tree;
-use public_key::{are_none, constructed_parts, take_primitive};
+use der_text::tag::{OBJECT_IDENTIFIER, OCTET_STRING, SEQUENCE, SET};
+use der_text::{Tree, are_none, constructed_parts, take_primitive};
 use std::alloc::Global;
-
-const OCTET_STRING: u8 = 0x04;
-
-const OBJECT_IDENTIFIER: u8 = 0x06;
-
-const SET: u8 = 0x31;
 
 fn attribute_of<'a>(tree: &Tree<'a>) -> Option<Attribute<'a>>
     ensures { result ≡ spec.attribute_of (node tree.now) }

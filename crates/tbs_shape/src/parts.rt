@@ -4,12 +4,8 @@ ghost use Rattle.der_text.specs.View.{node, nodes};
 ghost use Rattle.tbs_shape.specs.Shape as spec;
 
 use crate::value::Primitive;
-use der_text::Tree;
-use public_key::{are_none, take_constructed, take_primitive};
-
-const BOOLEAN: u8 = 0x01;
-
-const INTEGER: u8 = 0x02;
+use der_text::tag::{BOOLEAN, INTEGER};
+use der_text::{Tree, are_none, take_constructed, take_primitive};
 
 /// The tag of a version.
 const VERSION: u8 = 0xa0;

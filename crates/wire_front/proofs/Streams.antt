@@ -1,14 +1,14 @@
 -- Bytes that pass a stream.
-use Rattle.std.proofs.Common.{◌≡◌, ℕ, ◌+◌, ◌-◌, drop, List, [], ◌++◌, Option, Some, None, refl, sym, ap, ◌∙◌, append_assoc, length, length-append, arith}
+use Rattle.std.proofs.Common.{◌≡◌, ℕ, ◌+◌, ◌-◌, drop, List, [], ◌++◌, Option, Some, None, refl, sym, ap, ◌∙◌, append_assoc, append-nil, ◌⊎◌, inl, inr, length, length-append, arith}
 use Rattle.std.specs.Io.KnownBytes.{prepend_known, Consumes}
 use Rattle.plant.specs.Stream.{SourceTold}
 use Rattle.std.proofs.lemmas.List.{drop_at}
 use Rattle.gate_entries.specs.declared.command.Command.{Command}
 use Rattle.wire_front.specs.declared.streaming.Taken.{Taken}
 use Rattle.wire_front.specs.declared.streaming.Taken.TheVariants as takes
-use Rattle.wire_front.specs.Message.{BeginsWith}
-use Rattle.wire_front.specs.Stream.{StreamState, Passes, TakesMessage, Takes}
-use Rattle.wire_front.proofs.MessageLemmas.{some_message}
+use Rattle.wire_front.specs.Message.{BeginsWith, NeverHasMessage}
+use Rattle.wire_front.specs.Stream.{StreamState, Passes, TakesMessage, Takes, TakesAhead}
+use Rattle.wire_front.proofs.MessageLemmas.{some_message, one_message}
 
 none_gone : (held : List ℕ) (left : Option (List ℕ)) → Consumes (prepend_known held left) (prepend_known held left) []
 none_gone held None = tt
@@ -68,3 +68,20 @@ takes_message old new source command left begins last taken =
         count = omega (arith, size, ap length rest, taken);
       };
     }
+
+-- ---- what is held is taken first
+
+pub ahead_of : (found : Command) (left : ℕ) (taken : Taken) (stream : StreamState) (source : SourceTold) → BeginsWith stream.held found left
+    → (taken ≡ takes.Message found) ⊎ (taken ≡ takes.NoMemory) → TakesAhead taken stream source source
+ahead_of found left taken stream source begins is = λ command other also.
+    let same = one_message found command begins.message also.message begins.rest also.rest begins.asks also.asks (sym begins.whole ∙ also.whole) in (
+      refl,
+      elim is [
+        | inl message ↦ inl (message ∙ ap (λ (c : Command). takes.Message c) same.0)
+        | inr memory ↦ inr memory
+      ],
+    )
+
+pub never_ahead : (taken : Taken) (stream : StreamState) (source : SourceTold) → NeverHasMessage stream.held → TakesAhead taken stream source source
+never_ahead taken stream source never = λ command left begins.
+    absurd (never [] begins.message begins.rest command begins.asks (append-nil stream.held ∙ begins.whole))

@@ -1,5 +1,5 @@
 -- The bytes that were taken from a source, and one message after another from them.
-use Rattle.std.specs.Prelude.{◌≡◌, ℕ, ◌+◌, ◌<◌, ◌≤◌, ◌^◌, List, [], ◌++◌, length, IfSome}
+use Rattle.std.specs.Prelude.{◌≡◌, ℕ, ◌+◌, ◌<◌, ◌≤◌, ◌^◌, ◌⊎◌, List, [], ◌++◌, length, IfSome}
 use Rattle.std.specs.Io.KnownBytes.{prepend_known, Consumes, IsAtEnd}
 use Rattle.plant.specs.Causes.{Rose}
 use Rattle.plant.specs.Stream.{SourceTold}
@@ -9,7 +9,7 @@ use Rattle.wire_front.specs.declared.streaming.Taken.{Taken}
 use Rattle.wire_front.specs.declared.streaming.Taken.TheVariants as takes
 use Rattle.wire_front.specs.declared.streaming.More.{More}
 use Rattle.wire_front.specs.declared.streaming.More.TheVariants as mores
-use Rattle.wire_front.specs.Message.{IsMessageOf, HasNoMessage}
+use Rattle.wire_front.specs.Message.{IsMessageOf, HasNoMessage, BeginsWith}
 
 -- the bytes that were taken and not yet used, and how many were taken in all
 pub record StreamState : Type 0 where
@@ -45,6 +45,11 @@ Tells takes.NotBuilt stream source source' = IfSome source'.left (λ more. HasNo
 Tells takes.Fault stream source source' = HasNoMessage stream.held × Rose source.faults source'.faults
 Tells takes.StreamLong stream source source' = HasNoMessage stream.held × (stream.taken ≡ most_taken)
 Tells takes.NoMemory stream source source' = Unit {0}
+
+-- a message that stands at the front of what is held is what is taken, and the source isn't read
+abbrev pub TakesAhead : Taken → StreamState → SourceTold → SourceTold → Type 0
+TakesAhead taken old source source' =
+    (command : Command) (left : ℕ) → BeginsWith old.held command left → (source' ≡ source) × ((taken ≡ takes.Message command) ⊎ (taken ≡ takes.NoMemory))
 
 -- what one call of the source gave: some bytes more, or nothing
 abbrev pub Gives : More → StreamState → SourceTold → StreamState → SourceTold → Type 0

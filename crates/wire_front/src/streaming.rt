@@ -1,7 +1,7 @@
 //! The source's bytes, and one message after another from them.
-ghost use Rattle.std.specs.Prelude.{◌≡◌, ◌-◌, ◌≤◌, [], length, drop};
-ghost use Rattle.wire_front.specs.Message.{BeginsWith};
-ghost use Rattle.wire_front.specs.Stream.{Passes, Takes, Tells, Gives, most_taken};
+ghost use Rattle.std.specs.Prelude.{◌≡◌, ◌-◌, ◌≤◌, ◌⊎◌, [], length, drop, IfSome, IfNone};
+ghost use Rattle.wire_front.specs.Message.{BeginsWith, HasNoMessage};
+ghost use Rattle.wire_front.specs.Stream.{Passes, Takes, TakesAhead, Tells, Gives, most_taken};
 
 use crate::message::{Found, find_message};
 use gate_entries::Command;
@@ -61,19 +61,45 @@ impl Stream {
     pub fn take_message<S: Source>(&mut self, alloc: Global, source: &mut S) -> Taken
         ensures tells { Tells result self.new (S.told source.old) (S.told source.new) }
         ensures takes { Takes result self.old (S.told source.old) self.new (S.told source.new) }
+        // The source isn't read where a message is held.
+        ensures ahead { TakesAhead result self.old (S.told source.old) (S.told source.new) }
+        ensures fits { self.new.taken ≤ most_taken }
+        ensures later { (S.told source.old).faults ≤ (S.told source.new).faults }
+    {
+        let _ = &self.taken;
+        match self.take_held(alloc, source) {
+            Some(taken) => taken,
+            None => self.take_later(alloc, source),
+        }
+    }
+
+    /// The message at the front of what is held, or why none will stand there; None where further bytes may make one.
+    fn take_held<S: Source>(&mut self, alloc: Global, source: &S) -> Option<Taken>
+        ensures tells { IfSome result (λ taken. Tells taken self.new (S.told source.now) (S.told source.now)) }
+        ensures takes { IfSome result (λ taken. Takes taken self.old (S.told source.now) self.new (S.told source.now)) }
+        ensures ahead { IfSome result (λ taken. TakesAhead taken self.old (S.told source.now) (S.told source.now)) }
+        ensures none { IfNone result (HasNoMessage self.old.held) }
+        ensures same { IfNone result (self.new ≡ self.old) }
+        ensures taken { self.new.taken ≡ self.old.taken }
+    {
+        match find_message(alloc, &self.held) {
+            Found::Message { command, left } => Some(self.use_up(alloc, source, command, left)),
+            Found::Never => Some(Taken::NotBuilt),
+            Found::NoMemory => Some(Taken::NoMemory),
+            Found::More => None,
+        }
+    }
+
+    /// The next message, with further bytes of the source.
+    fn take_later<S: Source>(&mut self, alloc: Global, source: &mut S) -> Taken
+        requires none { HasNoMessage self.old.held }
+        ensures tells { Tells result self.new (S.told source.old) (S.told source.new) }
+        ensures takes { Takes result self.old (S.told source.old) self.new (S.told source.new) }
         ensures fits { self.new.taken ≤ most_taken }
         ensures later { (S.told source.old).faults ≤ (S.told source.new).faults }
     {
         let _ = &self.taken;
         loop {
-            match find_message(alloc, &self.held) {
-                Found::Message { command, left } => {
-                    return self.use_up(alloc, source, command, left);
-                }
-                Found::Never => return Taken::NotBuilt,
-                Found::NoMemory => return Taken::NoMemory,
-                Found::More => {}
-            }
             match self.take_more(source) {
                 More::Bytes => {}
                 More::End if self.held.is_empty() => return Taken::End,
@@ -81,6 +107,9 @@ impl Stream {
                 More::Fault => return Taken::Fault,
                 More::TooMany => return Taken::StreamLong,
                 More::NoMemory => return Taken::NoMemory,
+            }
+            if let Some(taken) = self.take_held(alloc, source) {
+                return taken;
             }
         }
     }
@@ -97,6 +126,7 @@ impl Stream {
         ensures tells { Tells result self.new (S.told source.now) (S.told source.now) }
         ensures taken { self.new.taken ≡ self.old.taken }
         ensures takes { Takes result self.old (S.told source.now) self.new (S.told source.now) }
+        ensures ahead { (result ≡ Taken.Message command) ⊎ (result ≡ Taken.NoMemory) }
     {
         match Vec::from_slice(alloc, last_of(&self.held, left)) {
             Ok(rest) => {

@@ -1,9 +1,9 @@
 use super::*;
-use gate_base::{Bytes, Labels, NoMemory, Sixteen, Target, Targets};
+use gate_base::{Bytes, Labels, Sixteen, Target, Targets};
 use gate_entries::{Command, Reply, Why, Whys};
 use plant::{Calls, MemorySource};
 use std::alloc::Global;
-use std::test::Fail;
+use std::process::Abort;
 
 /// An order for `example.com` and `*.a1.b2`, and a byte behind it.
 const ORDER: &[u8] =
@@ -14,7 +14,8 @@ const THREE_LABELS: &str = ".bbbbbbbbbbbbbbbbbbbbbbbbbbbbbbbbbbbbbbbbbbbbbbbbbbb
     .bbbbbbbbbbbbbbbbbbbbbbbbbbbbbbbbbbbbbbbbbbbbbbbbbbbbbbbbbbbbbbb\
     .bbbbbbbbbbbbbbbbbbbbbbbbbbbbbbbbbbbbbbbbbbbbbbbbbbbbbbbbbbbbbbb";
 
-const HEAD: &str = "POST /orders HTTP/1.1\r\nhost: gate\r\nx-gate-key: acme-token\r\n";
+const HEAD: &str =
+    "POST /orders HTTP/1.1\r\nhost: gate\r\nx-gate-key: acme-token\r\ncontent-length: ";
 
 /// A message that finalizes order 7.
 const FINALIZE: &[u8] =
@@ -39,87 +40,85 @@ fn number_of(found: &Found) -> u64 {
     }
 }
 
-/// What is found in a text.
-fn told(alloc: Global, text: &str) -> u64 {
+fn joined(rt: &impl Abort, alloc: Global, pieces: &[&str]) -> String {
+    let mut text = String::new(alloc);
+    for piece in pieces {
+        text.push_str(piece).expect(rt, "memory");
+    }
+    text
+}
+
+fn repeated(rt: &impl Abort, alloc: Global, piece: &str, count: u64) -> String {
+    let mut text = String::new(alloc);
+    for _ in 0..count {
+        text.push_str(piece).expect(rt, "memory");
+    }
+    text
+}
+
+/// What is found in these pieces, one behind another.
+fn told(rt: &impl Abort, alloc: Global, pieces: &[&str]) -> u64 {
+    let text = joined(rt, alloc, pieces);
     number_of(&find_message(alloc, text.as_bytes()))
 }
 
-/// What is found behind the lines up to the size, where that and the rest are this.
-fn sized(alloc: Global, rest: &str) -> Result<u64, Fail> {
-    let mut text = String::from_str(alloc, HEAD)?;
-    text.push_str("content-length: ")?;
-    text.push_str(rest)?;
-    Ok(told(alloc, &text))
-}
-
 /// What is found of a body.
-fn bodied(alloc: Global, body: &str) -> Result<u64, Fail> {
+fn bodied(rt: &impl Abort, alloc: Global, body: &str) -> u64 {
     let size = body.len();
-    let mut text = format!(in alloc; "{size}\r\n\r\n")?;
-    text.push_str(body)?;
-    sized(alloc, &text)
+    let size = format!(in alloc; "{size}").expect(rt, "memory");
+    told(rt, alloc, &[HEAD, &size, "\r\n\r\n", body])
 }
 
-/// What is found of an order of these members.
-fn ordered(alloc: Global, days: &str, key: &str, names: &str, request: &str) -> Result<u64, Fail> {
-    let mut body = String::from_str(alloc, "{\"common\":false,\"days\":")?;
-    body.push_str(days)?;
-    body.push_str(",\"key\":\"")?;
-    body.push_str(key)?;
-    body.push_str("\",\"names\":[")?;
-    body.push_str(names)?;
-    body.push_str("],\"request\":\"")?;
-    body.push_str(request)?;
-    body.push_str("\"}")?;
-    bodied(alloc, &body)
+/// What is found of an order of these members: days, retry key, names and request.
+fn ordered(rt: &impl Abort, alloc: Global, members: [&str; 4]) -> u64 {
+    let [days, key, names, request] = members;
+    let body = joined(
+        rt,
+        alloc,
+        &[
+            "{\"common\":false,\"days\":",
+            days,
+            ",\"key\":\"",
+            key,
+            "\",\"names\":[",
+            names,
+            "],\"request\":\"",
+            request,
+            "\"}",
+        ],
+    );
+    bodied(rt, alloc, &body)
+}
+
+/// What is found of an order whose retry key has so many letters.
+fn keyed(rt: &impl Abort, alloc: Global, letters: u64) -> u64 {
+    let key = repeated(rt, alloc, "k", letters);
+    ordered(rt, alloc, ["90", &key, "\"a.b\"", "MAA="])
+}
+
+/// What is found of an order with a request of 16,383 bytes and those behind them, in base64.
+fn requested(rt: &impl Abort, alloc: Global, last: &str) -> u64 {
+    let front = repeated(rt, alloc, "MAAA", 5_461);
+    let request = joined(rt, alloc, &[&front, last]);
+    ordered(rt, alloc, ["90", "k1", "\"a.b\"", &request])
 }
 
 /// What is found of an order for so many names, the last of which is another one or the first again.
-fn counted(alloc: Global, count: u64, last: &str) -> Result<u64, Fail> {
+fn counted(rt: &impl Abort, alloc: Global, count: u64, last: &str) -> u64 {
     let mut names = String::new(alloc);
     for number in 1..count {
-        let name = format!(in alloc; "\"n{number}.com\",")?;
-        names.push_str(&name)?;
+        let name = format!(in alloc; "\"n{number}.com\",").expect(rt, "memory");
+        names.push_str(&name).expect(rt, "memory");
     }
-    names.push_str(last)?;
-    ordered(alloc, "90", "k1", &names, "MAA=")
+    names.push_str(last).expect(rt, "memory");
+    ordered(rt, alloc, ["90", "k1", &names, "MAA="])
 }
 
-/// What is found of an order for one name.
-fn named(alloc: Global, name: &str) -> Result<u64, Fail> {
-    let mut names = String::from_str(alloc, "\"")?;
-    names.push_str(name)?;
-    names.push_str("\"")?;
-    ordered(alloc, "90", "k1", &names, "MAA=")
-}
-
-/// The same with so many letters more in front.
-fn longer(alloc: Global, letters: u64, name: &str) -> Result<u64, Fail> {
-    let mut text = String::new(alloc);
-    for _ in 0..letters {
-        text.push_str("a")?;
-    }
-    text.push_str(name)?;
-    named(alloc, &text)
-}
-
-/// What is found of an order under a key of so many letters.
-fn keyed(alloc: Global, letters: u64) -> Result<u64, Fail> {
-    let mut key = String::new(alloc);
-    for _ in 0..letters {
-        key.push_str("k")?;
-    }
-    ordered(alloc, "90", &key, "\"a.b\"", "MAA=")
-}
-
-/// What is found of an order with a request of 16,383 bytes and those that the base64 behind them says.
-fn requested(alloc: Global, last: &str) -> Result<u64, Fail> {
-    let mut request = String::new(alloc);
-    for _ in 0..5_461 {
-        request.push_str("MAAA")?;
-    }
-    request.push_str(last)?;
-    ordered(alloc, "90", "k1", "\"a.b\"", &request)
+/// What is found of an order for one name, with so many letters in front.
+fn named(rt: &impl Abort, alloc: Global, letters: u64, name: &str) -> u64 {
+    let letters = repeated(rt, alloc, "a", letters);
+    let names = joined(rt, alloc, &["\"", &letters, name, "\""]);
+    ordered(rt, alloc, ["90", "k1", &names, "MAA="])
 }
 
 /// What is found in so many bytes of the order.
@@ -170,18 +169,10 @@ fn is_label(label: &Bytes, text: &[u8]) -> bool {
     label.as_slice() == text
 }
 
-/// What is found where this stands behind `POST /orders/`.
-fn routed(alloc: Global, rest: &str) -> Result<Found, Fail> {
-    let mut text = String::from_str(alloc, "POST /orders/")?;
-    text.push_str(rest)?;
-    Ok(find_message(alloc, text.as_bytes()))
-}
-
 /// What is found of a message that finalizes the order with a number of these digits, and its number.
-fn finalized(alloc: Global, digits: &str) -> Result<(u64, Option<u64>), Fail> {
-    let mut text = String::from_str(alloc, digits)?;
-    text.push_str(FINALIZE_END)?;
-    let found = routed(alloc, &text)?;
+fn finalized(rt: &impl Abort, alloc: Global, digits: &str) -> (u64, Option<u64>) {
+    let text = joined(rt, alloc, &["POST /orders/", digits, FINALIZE_END]);
+    let found = find_message(alloc, text.as_bytes());
     let order = match &found {
         Found::Message {
             command: Command::Finalize { order },
@@ -189,129 +180,209 @@ fn finalized(alloc: Global, digits: &str) -> Result<(u64, Option<u64>), Fail> {
         } => Some(*order),
         _ => None,
     };
-    Ok((number_of(&found), order))
-}
-
-/// The bytes of a response with that status line, that size of its body and that body.
-fn response(alloc: Global, status: &str, size: u64, json: &str) -> Result<String, Fail> {
-    let mut text = String::from_str(alloc, "HTTP/1.1 ")?;
-    text.push_str(status)?;
-    text.push_str("\r\ncontent-type: application/json\r\n")?;
-    let length = format!(in alloc; "content-length: {size}\r\n\r\n")?;
-    text.push_str(&length)?;
-    text.push_str(json)?;
-    Ok(text)
+    (number_of(&found), order)
 }
 
 const SERIAL: Sixteen = Sixteen([0x40, 0xab, 9, 0xff, 0, 1, 2, 3, 4, 5, 6, 7, 8, 9, 10, 11]);
 
-/// A refusal for keys that the entries with these numbers block.
-fn refused(alloc: Global, numbers: &[u64]) -> Result<Reply, NoMemory> {
-    let mut whys = Vec::new(alloc);
+/// What a reply says.
+#[derive(Clone, Copy)]
+enum Says {
+    Issued(&'static [u8]),
+    Blocked(u64),
+    RoleDenied,
+    NoSuchOrder,
+    BadFields(u8),
+    EntropyRepeat,
+    /// Refused for keys that the entries with these numbers block.
+    Refused(&'static [u64]),
+    EntropyFault,
+    SignerFault,
+    Full,
+}
+
+fn whys(rt: &impl Abort, alloc: Global, numbers: &[u64]) -> Whys {
+    let mut whys = Whys::new(alloc);
     for number in numbers {
-        whys.push(Why::KeyBlocked { number: *number })?;
+        whys.push(Why::KeyBlocked { number: *number })
+            .expect(rt, "memory");
     }
-    Ok(Reply::Refused {
-        why: Whys::from_vec(whys),
-    })
+    whys
 }
 
-fn issued(alloc: Global, certificate: &[u8]) -> Result<Reply, NoMemory> {
-    Ok(Reply::Issued {
-        order: 18_446_744_073_709_551_615,
-        serial: SERIAL,
-        certificate: Bytes::from_slice(alloc, certificate)?,
-    })
+fn reply(rt: &impl Abort, alloc: Global, says: Says) -> Reply {
+    match says {
+        Says::Issued(certificate) => Reply::Issued {
+            order: 18_446_744_073_709_551_615,
+            serial: SERIAL,
+            certificate: Bytes::from_slice(alloc, certificate).expect(rt, "memory"),
+        },
+        Says::Blocked(number) => Reply::Blocked { number },
+        Says::RoleDenied => Reply::RoleDenied,
+        Says::NoSuchOrder => Reply::NoSuchOrder,
+        Says::BadFields(rule) => Reply::BadFields { rule },
+        Says::EntropyRepeat => Reply::EntropyRepeat { value: SERIAL },
+        Says::Refused(numbers) => Reply::Refused {
+            why: whys(rt, alloc, numbers),
+        },
+        Says::EntropyFault => Reply::EntropyFault,
+        Says::SignerFault => Reply::SignerFault,
+        Says::Full => Reply::Full,
+    }
 }
+
+/// What a reply says, the status line of its response, and the size of its body and the body.
+const REPLIES: &[(Says, &str, &str, &str)] = &[
+    (
+        Says::Issued(b"\x30\x01\x02\xff"),
+        "200 OK",
+        "116",
+        "{\"certificate\":\"MAEC/w==\",\"order\":18446744073709551615,\"reply\":\"issued\",\
+            \"serial\":\"40ab09ff000102030405060708090a0b\"}",
+    ),
+    (
+        Says::Blocked(2),
+        "200 OK",
+        "30",
+        "{\"number\":2,\"reply\":\"blocked\"}",
+    ),
+    (
+        Says::RoleDenied,
+        "403 Forbidden",
+        "23",
+        "{\"reply\":\"role_denied\"}",
+    ),
+    (
+        Says::NoSuchOrder,
+        "404 Not Found",
+        "25",
+        "{\"reply\":\"no_such_order\"}",
+    ),
+    (
+        Says::BadFields(7),
+        "422 Unprocessable Entity",
+        "31",
+        "{\"reply\":\"bad_fields\",\"rule\":7}",
+    ),
+    (
+        Says::EntropyRepeat,
+        "503 Service Unavailable",
+        "69",
+        "{\"reply\":\"entropy_repeat\",\"value\":\"40ab09ff000102030405060708090a0b\"}",
+    ),
+    (
+        Says::Refused(&[]),
+        "422 Unprocessable Entity",
+        "28",
+        "{\"reply\":\"refused\",\"why\":[]}",
+    ),
+    (
+        Says::Refused(&[3]),
+        "422 Unprocessable Entity",
+        "61",
+        "{\"reply\":\"refused\",\"why\":[{\"number\":3,\"rule\":\"key_blocked\"}]}",
+    ),
+    (
+        Says::Refused(&[3, 12, 4]),
+        "422 Unprocessable Entity",
+        "130",
+        "{\"reply\":\"refused\",\"why\":[{\"number\":3,\"rule\":\"key_blocked\"},\
+            {\"number\":12,\"rule\":\"key_blocked\"},{\"number\":4,\"rule\":\"key_blocked\"}]}",
+    ),
+    (
+        Says::EntropyFault,
+        "503 Service Unavailable",
+        "25",
+        "{\"reply\":\"entropy_fault\"}",
+    ),
+    (
+        Says::SignerFault,
+        "503 Service Unavailable",
+        "24",
+        "{\"reply\":\"signer_fault\"}",
+    ),
+    (
+        Says::Full,
+        "507 Insufficient Storage",
+        "16",
+        "{\"reply\":\"full\"}",
+    ),
+];
 
 #[test]
-fn replies_are_spelled(rt: HostRuntime) -> Result<(), Fail> {
+fn replies_are_spelled(rt: HostRuntime) {
     let alloc = rt.alloc();
-    let rows = [
-        (
-            issued(alloc, b"\x30\x01\x02\xff").expect(&rt, "memory"),
-            "200 OK",
-            116,
-            "{\"certificate\":\"MAEC/w==\",\"order\":18446744073709551615,\"reply\":\"issued\",\
-                \"serial\":\"40ab09ff000102030405060708090a0b\"}",
-        ),
-        (
-            Reply::Blocked { number: 2 },
-            "200 OK",
-            30,
-            "{\"number\":2,\"reply\":\"blocked\"}",
-        ),
-        (
-            Reply::RoleDenied,
-            "403 Forbidden",
-            23,
-            "{\"reply\":\"role_denied\"}",
-        ),
-        (
-            Reply::NoSuchOrder,
-            "404 Not Found",
-            25,
-            "{\"reply\":\"no_such_order\"}",
-        ),
-        (
-            Reply::BadFields { rule: 7 },
-            "422 Unprocessable Entity",
-            31,
-            "{\"reply\":\"bad_fields\",\"rule\":7}",
-        ),
-        (
-            Reply::EntropyRepeat { value: SERIAL },
-            "503 Service Unavailable",
-            69,
-            "{\"reply\":\"entropy_repeat\",\"value\":\"40ab09ff000102030405060708090a0b\"}",
-        ),
-        (
-            refused(alloc, &[]).expect(&rt, "memory"),
-            "422 Unprocessable Entity",
-            28,
-            "{\"reply\":\"refused\",\"why\":[]}",
-        ),
-        (
-            refused(alloc, &[3]).expect(&rt, "memory"),
-            "422 Unprocessable Entity",
-            61,
-            "{\"reply\":\"refused\",\"why\":[{\"number\":3,\"rule\":\"key_blocked\"}]}",
-        ),
-        (
-            refused(alloc, &[3, 12, 4]).expect(&rt, "memory"),
-            "422 Unprocessable Entity",
-            130,
-            "{\"reply\":\"refused\",\"why\":[{\"number\":3,\"rule\":\"key_blocked\"},\
-                {\"number\":12,\"rule\":\"key_blocked\"},{\"number\":4,\"rule\":\"key_blocked\"}]}",
-        ),
-        (
-            Reply::EntropyFault,
-            "503 Service Unavailable",
-            25,
-            "{\"reply\":\"entropy_fault\"}",
-        ),
-        (
-            Reply::SignerFault,
-            "503 Service Unavailable",
-            24,
-            "{\"reply\":\"signer_fault\"}",
-        ),
-        (
-            Reply::Full,
-            "507 Insufficient Storage",
-            16,
-            "{\"reply\":\"full\"}",
-        ),
-    ];
-    for (reply, status, size, json) in rows {
-        let want = response(alloc, status, size, json)?;
-        assert_eq!(rt; reply_text(alloc, &reply)?, want);
+    for (says, status, size, json) in REPLIES {
+        let want = joined(
+            &rt,
+            alloc,
+            &[
+                "HTTP/1.1 ",
+                status,
+                "\r\ncontent-type: application/json\r\ncontent-length: ",
+                size,
+                "\r\n\r\n",
+                json,
+            ],
+        );
+        let reply = reply(&rt, alloc, *says);
+        let text = reply_text(alloc, &reply).expect(&rt, "memory");
+        assert_eq!(rt; text, want);
     }
-    Ok(())
 }
 
+/// The digits of an order's number, and the number that is read.
+const NUMBERS: &[(&str, Option<u64>)] = &[
+    ("7", Some(7)),
+    ("0", Some(0)),
+    ("007", Some(7)),
+    ("9999999999999999999", Some(9_999_999_999_999_999_999)),
+    ("0000000000000000012", Some(12)),
+    ("10000000000000000000", None),
+    ("00000000000000000007", None),
+    ("", None),
+    ("+7", None),
+    ("7a", None),
+    ("7/8", None),
+];
+
+/// The pieces of a text, and what is found in it.
+const TEXTS: &[(&[&str], u64)] = &[
+    // behind the number of an order to finalize
+    (&["POST /orders/12345678901234567890"], NEVER),
+    (&["POST /orders/1234567890123456789"], MORE),
+    (&["POST /orders/7/"], MORE),
+    (&["POST /orders/7/finalise"], NEVER),
+    (&["POST /orders/7/challenges HTTP/1.1"], NEVER),
+    (&["POST /orders/7/finalize HTTP/1.0"], NEVER),
+    (
+        &["POST /orders/7/finalize HTTP/1.1\r\nhost: gate\r\n\r\n"],
+        NEVER,
+    ),
+    (&["POST /orders/7 HTTP/1.1"], NEVER),
+    (&["POST /orders/ HTTP/1.1"], NEVER),
+    // heads of another form
+    (&["GET "], NEVER),
+    (&["POST /orders HTTP/1.0"], NEVER),
+    (&["POST /orders HTTP/1.1\n"], NEVER),
+    (&["POST /orders HTTP/1.1\r\nhost: gate\r\n\r\n"], NEVER),
+    // sizes of a body
+    (&[HEAD, "65536\r\n\r\n"], MORE),
+    (&[HEAD, "65537\r\n\r\n"], NEVER),
+    (&[HEAD, "99999"], MORE),
+    (&[HEAD, "100000"], NEVER),
+    (&[HEAD, "88\r\n\r"], MORE),
+    (&[HEAD, "88\r\r"], NEVER),
+    (&[HEAD, "088\r\n\r\n"], NEVER),
+    (&[HEAD, "0\r\n\r\n"], NEVER),
+    (&[HEAD, "\r\n"], NEVER),
+    (&[HEAD, "8x"], NEVER),
+    (&[HEAD, " 8"], NEVER),
+    (&[HEAD, "+8"], NEVER),
+];
+
 #[test]
-fn an_order_is_read_and_what_stands_behind_it_is_left(rt: HostRuntime) -> Result<(), Fail> {
+fn messages_are_found_by_their_heads(rt: HostRuntime) {
     let alloc = rt.alloc();
     let found = find_message(alloc, ORDER);
     assert_eq!(rt; number_of(&found), MESSAGE + 1);
@@ -323,76 +394,7 @@ fn an_order_is_read_and_what_stands_behind_it_is_left(rt: HostRuntime) -> Result
         assert_eq!(rt; cut(alloc, size), MORE, "of {size} bytes");
     }
     assert_eq!(rt; cut(alloc, 169), MESSAGE);
-    Ok(())
-}
-
-#[test]
-fn an_order_to_finalize_is_read_by_its_number(rt: HostRuntime) -> Result<(), Fail> {
-    let alloc = rt.alloc();
-    let numbers = [
-        ("7", Some(7)),
-        ("0", Some(0)),
-        ("007", Some(7)),
-        ("9999999999999999999", Some(9_999_999_999_999_999_999)),
-        ("0000000000000000012", Some(12)),
-        ("10000000000000000000", None),
-        ("00000000000000000007", None),
-        ("", None),
-        ("+7", None),
-        ("7a", None),
-        ("7/8", None),
-    ];
-    for (digits, want) in numbers {
-        let found = match want {
-            Some(_) => MESSAGE + 1,
-            None => NEVER,
-        };
-        assert_eq!(rt; finalized(alloc, digits)?, (found, want), "{digits}");
-    }
-    let others = [
-        ("12345678901234567890", NEVER),
-        ("1234567890123456789", MORE),
-        ("7/", MORE),
-        ("7/finalise", NEVER),
-        ("7/challenges HTTP/1.1", NEVER),
-        ("7/finalize HTTP/1.0", NEVER),
-        ("7/finalize HTTP/1.1\r\nhost: gate\r\n\r\n", NEVER),
-        ("7 HTTP/1.1", NEVER),
-        (" HTTP/1.1", NEVER),
-    ];
-    for (rest, want) in others {
-        assert_eq!(rt; number_of(&routed(alloc, rest)?), want, "{rest}");
-    }
-    Ok(())
-}
-
-#[test]
-fn messages_are_taken_one_after_another(rt: HostRuntime) -> Result<(), Fail> {
-    let alloc = rt.alloc();
-    let mut bytes = Vec::from_slice(alloc, FINALIZE)?;
-    bytes.extend_from_slice(ORDER)?;
-    let mut source = MemorySource::new(Bytes::from_vec(bytes), Calls::new(alloc));
-    let mut stream = Stream::new(alloc);
-    match stream.take_message(alloc, &mut source) {
-        Taken::Message(Command::Finalize { order }) => assert_eq!(rt; order, 7),
-        _ => assert!(rt; false),
-    }
-    match stream.take_message(alloc, &mut source) {
-        Taken::Message(command) => assert!(rt; is_order(&command)),
-        _ => assert!(rt; false),
-    }
-    match stream.take_message(alloc, &mut source) {
-        Taken::NotBuilt => {}
-        _ => assert!(rt; false),
-    }
-    Ok(())
-}
-
-#[test]
-fn a_front_of_a_message_may_become_one(rt: HostRuntime) -> Result<(), Fail> {
-    let alloc = rt.alloc();
-    let size = FINALIZE.len();
-    for count in 0..size {
+    for count in 0..FINALIZE.len() {
         let front = FINALIZE.get(..count).expect(&rt, "fewer bytes");
         assert_eq!(rt;
             number_of(&find_message(alloc, front)),
@@ -401,105 +403,101 @@ fn a_front_of_a_message_may_become_one(rt: HostRuntime) -> Result<(), Fail> {
         );
     }
     assert_eq!(rt; number_of(&find_message(alloc, FINALIZE)), MESSAGE);
-    Ok(())
+    for (digits, want) in NUMBERS {
+        let found = match want {
+            Some(_) => MESSAGE + 1,
+            None => NEVER,
+        };
+        assert_eq!(rt; finalized(&rt, alloc, digits), (found, *want), "{digits}");
+    }
+    for (pieces, want) in TEXTS {
+        assert_eq!(rt; told(&rt, alloc, pieces), *want, "{pieces:?}");
+    }
 }
 
-#[test]
-fn heads_of_another_form_are_refused(rt: HostRuntime) -> Result<(), Fail> {
-    let alloc = rt.alloc();
-    let texts = [
-        "GET ",
-        "POST /orders HTTP/1.0",
-        "POST /orders HTTP/1.1\n",
-        "POST /orders HTTP/1.1\r\nhost: gate\r\n\r\n",
-    ];
-    for text in texts {
-        assert_eq!(rt; told(alloc, text), NEVER, "{text}");
-    }
-    let sizes = [
-        ("65536\r\n\r\n", MORE),
-        ("65537\r\n\r\n", NEVER),
-        ("99999", MORE),
-        ("100000", NEVER),
-        ("88\r\n\r", MORE),
-        ("88\r\r", NEVER),
-        ("088\r\n\r\n", NEVER),
-        ("0\r\n\r\n", NEVER),
-        ("\r\n", NEVER),
-        ("8x", NEVER),
-        (" 8", NEVER),
-        ("+8", NEVER),
-    ];
-    for (rest, want) in sizes {
-        assert_eq!(rt; sized(alloc, rest)?, want, "{rest}");
-    }
-    Ok(())
-}
+/// Days, retry key, names and request of an order, and what is found.
+const ORDERS: &[([&str; 4], u64)] = &[
+    (["1", "k", "\"a.b\"", "MA=="], MESSAGE),
+    (["398", "0", "\"a.b\",\"*.a.b\"", "MAAA"], MESSAGE),
+    (["0", "k", "\"a.b\"", "MA=="], NEVER),
+    (["399", "k", "\"a.b\"", "MA=="], NEVER),
+    (["090", "k", "\"a.b\"", "MA=="], NEVER),
+    (["", "k", "\"a.b\"", "MA=="], NEVER),
+    (["90", "", "\"a.b\"", "MA=="], NEVER),
+    (["90", "K", "\"a.b\"", "MA=="], NEVER),
+    (["90", "k-", "\"a.b\"", "MA=="], NEVER),
+    (["90", "k", "", "MA=="], NEVER),
+    (["90", "k", "\"a.b\",", "MA=="], NEVER),
+    (["90", "k", "\"a.b\" ", "MA=="], NEVER),
+    (["90", "k", "\"a.b\",\"c.d\",\"a.b\"", "MA=="], NEVER),
+    (["90", "k", "\"a.b\"", ""], NEVER),
+    (["90", "k", "\"a.b\"", "MA="], NEVER),
+    (["90", "k", "\"a.b\"", "MB=="], NEVER),
+    (["90", "k", "\"a.b\"", "MA-_"], NEVER),
+];
+
+/// So many letters and what stands behind them as a name, and what is found.
+const NAMES: &[(u64, &str, u64)] = &[
+    (0, "a", MESSAGE),
+    (0, "0.a9", MESSAGE),
+    (0, "", NEVER),
+    (0, "*.", NEVER),
+    (0, "*", NEVER),
+    (0, "*.*.a", NEVER),
+    (0, ".a", NEVER),
+    (0, "a.", NEVER),
+    (0, "a..b", NEVER),
+    (0, "A.b", NEVER),
+    (0, "a-1.b", NEVER),
+    (0, "a.9b", NEVER),
+    (0, "a.b\\u0020", NEVER),
+    (63, ".b", MESSAGE),
+    (64, ".b", NEVER),
+    (61, THREE_LABELS, MESSAGE),
+    (62, THREE_LABELS, NEVER),
+];
 
 #[test]
-fn bodies_of_another_form_are_refused(rt: HostRuntime) -> Result<(), Fail> {
+fn orders_are_found_by_their_bodies(rt: HostRuntime) {
     let alloc = rt.alloc();
-    let orders = [
-        ("1", "k", "\"a.b\"", "MA==", MESSAGE),
-        ("398", "0", "\"a.b\",\"*.a.b\"", "MAAA", MESSAGE),
-        ("0", "k", "\"a.b\"", "MA==", NEVER),
-        ("399", "k", "\"a.b\"", "MA==", NEVER),
-        ("090", "k", "\"a.b\"", "MA==", NEVER),
-        ("", "k", "\"a.b\"", "MA==", NEVER),
-        ("90", "", "\"a.b\"", "MA==", NEVER),
-        ("90", "K", "\"a.b\"", "MA==", NEVER),
-        ("90", "k-", "\"a.b\"", "MA==", NEVER),
-        ("90", "k", "", "MA==", NEVER),
-        ("90", "k", "\"a.b\",", "MA==", NEVER),
-        ("90", "k", "\"a.b\" ", "MA==", NEVER),
-        ("90", "k", "\"a.b\",\"c.d\",\"a.b\"", "MA==", NEVER),
-        ("90", "k", "\"a.b\"", "", NEVER),
-        ("90", "k", "\"a.b\"", "MA=", NEVER),
-        ("90", "k", "\"a.b\"", "MB==", NEVER),
-        ("90", "k", "\"a.b\"", "MA-_", NEVER),
-    ];
-    for (days, key, names, request, want) in orders {
+    for (members, want) in ORDERS {
+        assert_eq!(rt; ordered(&rt, alloc, *members), *want, "{members:?}");
+    }
+    for (letters, name, want) in NAMES {
         assert_eq!(rt;
-            ordered(alloc, days, key, names, request)?,
-            want,
-            "{days} {key} {names} {request}"
+            named(&rt, alloc, *letters, name),
+            *want,
+            "{letters} letters and {name}"
         );
     }
-    assert_eq!(rt; bodied(alloc, "{}")?, NEVER);
-    assert_eq!(rt; keyed(alloc, 64)?, MESSAGE);
-    assert_eq!(rt; keyed(alloc, 65)?, NEVER);
-    assert_eq!(rt; requested(alloc, "MA==")?, MESSAGE);
-    assert_eq!(rt; requested(alloc, "MAA=")?, NEVER);
-    Ok(())
+    for (count, last, want) in [
+        (100, "\"n0.com\"", MESSAGE),
+        (101, "\"n0.com\"", NEVER),
+        (100, "\"n99.com\"", NEVER),
+    ] {
+        assert_eq!(rt; counted(&rt, alloc, count, last), want, "{count} names");
+    }
+    assert_eq!(rt; bodied(&rt, alloc, "{}"), NEVER);
+    // keys of 64 and 65 letters, and requests of 16,384 and 16,385 bytes
+    for (letters, want) in [(64, MESSAGE), (65, NEVER)] {
+        assert_eq!(rt; keyed(&rt, alloc, letters), want, "{letters} letters");
+    }
+    for (last, want) in [("MA==", MESSAGE), ("MAA=", NEVER)] {
+        assert_eq!(rt; requested(&rt, alloc, last), want, "{last}");
+    }
 }
 
 #[test]
-fn other_names_are_refused(rt: HostRuntime) -> Result<(), Fail> {
+fn messages_are_taken_one_after_another(rt: HostRuntime) {
     let alloc = rt.alloc();
-    let names = [
-        ("a", MESSAGE),
-        ("0.a9", MESSAGE),
-        ("", NEVER),
-        ("*.", NEVER),
-        ("*", NEVER),
-        ("*.*.a", NEVER),
-        (".a", NEVER),
-        ("a.", NEVER),
-        ("a..b", NEVER),
-        ("A.b", NEVER),
-        ("a-1.b", NEVER),
-        ("a.9b", NEVER),
-        ("a.b\\u0020", NEVER),
-    ];
-    for (name, want) in names {
-        assert_eq!(rt; named(alloc, name)?, want, "{name}");
-    }
-    assert_eq!(rt; longer(alloc, 63, ".b")?, MESSAGE);
-    assert_eq!(rt; longer(alloc, 64, ".b")?, NEVER);
-    assert_eq!(rt; longer(alloc, 61, THREE_LABELS)?, MESSAGE);
-    assert_eq!(rt; longer(alloc, 62, THREE_LABELS)?, NEVER);
-    assert_eq!(rt; counted(alloc, 100, "\"n0.com\"")?, MESSAGE);
-    assert_eq!(rt; counted(alloc, 101, "\"n0.com\"")?, NEVER);
-    assert_eq!(rt; counted(alloc, 100, "\"n99.com\"")?, NEVER);
-    Ok(())
+    let mut bytes = FINALIZE.to_vec(alloc).expect(&rt, "memory");
+    bytes.extend_from_slice(ORDER).expect(&rt, "memory");
+    let mut source = MemorySource::new(Bytes::from_vec(bytes), Calls::new(alloc));
+    let mut stream = Stream::new(alloc);
+    let first = stream.take_message(alloc, &mut source);
+    assert!(rt; matches!(&first, Taken::Message(Command::Finalize { order: 7 })));
+    let second = stream.take_message(alloc, &mut source);
+    assert!(rt; matches!(&second, Taken::Message(command) if is_order(command)));
+    let last = stream.take_message(alloc, &mut source);
+    assert!(rt; matches!(&last, Taken::NotBuilt));
 }

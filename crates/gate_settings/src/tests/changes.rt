@@ -3,6 +3,10 @@
 /// A text of the example, what stands in its place, and the rule and the item.
 pub type Row = (&'static str, &'static str, u8, u64);
 
+/// A text of the example, the front and the repeated piece of what stands in its place, how often the piece stands
+/// there, and the rule and the item.
+pub type Long = (&'static str, &'static str, &'static str, usize, u8, u64);
+
 pub const EXAMPLE: &str = r#"issuers = ["ca.example"]
 [ca]
 issuer = "30123110300e06035504030c0747617465204341"
@@ -311,4 +315,39 @@ pub const CHANGES: [Row; 94] = [
         10,
         2,
     ),
+];
+
+const ISSUER: &str = "30123110300e06035504030c0747617465204341";
+
+const AIA: &str = "http://c.example/1.cer";
+
+const RULES: &str = "com\\nexample";
+
+/// SEQUENCEs, each the only part of the one before it: 31 levels, and 32.
+const NAME_OF_31_LEVELS: &str =
+    "303c303a30383036303430323030302e302c302a30283026302430223020301e301c301a30183016301430123010300e300c300a30083006300430023000";
+
+const NAME_OF_32_LEVELS: &str =
+    "303e303c303a30383036303430323030302e302c302a30283026302430223020301e301c301a30183016301430123010300e300c300a30083006300430023000";
+
+/// Texts at a limit, and beyond it.
+pub const LIMITS: [Long; 14] = [
+    // bytes of the file, behind a comment
+    ("[ca]", "[ca]#", "x", 1_048_576 - 1_231, 0, 0),
+    ("[ca]", "[ca]#", "x", 1_048_577 - 1_231, 1, 0),
+    // levels and bytes of the issuer
+    (ISSUER, NAME_OF_31_LEVELS, "", 0, 0, 0),
+    (ISSUER, NAME_OF_32_LEVELS, "", 0, 5, 0),
+    (ISSUER, "308203fc048203f8", "00", 1_016, 0, 0),
+    (ISSUER, "308203fd048203f9", "00", 1_017, 5, 0),
+    // bytes of an address, and suffix rules
+    (AIA, "http://", "a", 505, 0, 0),
+    (AIA, "http://", "a", 506, 8, 0),
+    (RULES, "", "a\\n", 16_384, 0, 0),
+    (RULES, "", "a\\n", 16_385, 9, 0),
+    // bytes of a token, and of an id
+    ("acme-token", "", "t", 64, 0, 0),
+    ("acme-token", "", "t", 65, 10, 1),
+    ("id = \"op", "id = \"", "o", 64, 0, 0),
+    ("id = \"op", "id = \"", "o", 65, 10, 2),
 ];

@@ -666,6 +666,14 @@ pub const RSA_KEYS: &[(&[u8], usize, &[u8], &[u8])] = &[
         b"\x02\x03\x01\0\x01",
         &[],
     ),
+    // 32,768 bits, so that the body has more than 4,096 bytes
+    (
+        b"0\x82\x10\"0\x0d\x06\x09*\x86H\x86\xf7\x0d\x01\x01\x01\x05\0\x03\x82\x10\x0f\00\x82\x10\
+        \x0a\x02\x82\x10\x01\0\x80",
+        4095,
+        b"\x02\x03\x01\0\x01",
+        &[],
+    ),
     // exponent 3
     (
         b"0\x82\x01 0\x0d\x06\x09*\x86H\x86\xf7\x0d\x01\x01\x01\x05\0\x03\x82\x01\x0d\00\x82\x01\

@@ -1,4 +1,4 @@
-use Rattle.der_text.proofs.Parts.{counts_on, counts_to_first, counts_past_last}
+use Rattle.der_text.proofs.Paths.{counts_on, counts_to_first, counts_past_last}
 use Rattle.der_text.proofs.part.element_at.Goals as goal
 
 pub returns-in_err-first : goal.returns-in_err-first

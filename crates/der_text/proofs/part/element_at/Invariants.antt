@@ -1,5 +1,5 @@
 use Rattle.std.proofs.Common.{length}
-use Rattle.der_text.proofs.Parts.{Counts}
+use Rattle.der_text.proofs.Paths.{Counts}
 use Rattle.der_text.proofs.part.element_at.Given as goal
 
 -- the element that is meant lies so many places on

@@ -1,5 +1,5 @@
 use Rattle.std.proofs.Common.{ℕ, ◌+◌, List, get_or, drop, subst}
-use Rattle.der_text.proofs.Parts.{Leads, leads_on, drop_step}
+use Rattle.der_text.proofs.Paths.{Leads, leads_on, drop_step}
 use Rattle.der_text.proofs.part.part_at.Goals as goal
 
 pub loop-i-preserved : goal.loop-i-preserved

@@ -1,5 +1,5 @@
 use Rattle.std.proofs.Common.{drop}
-use Rattle.der_text.proofs.Parts.{Leads}
+use Rattle.der_text.proofs.Paths.{Leads}
 use Rattle.der_text.proofs.part.part_at.Given as goal
 
 -- the rest of the path leads from the part at hand to the one that is meant

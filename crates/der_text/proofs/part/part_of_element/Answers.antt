@@ -1,6 +1,6 @@
 use Rattle.std.proofs.Common.{sym}
 use Rattle.der_text.specs.Front.{front}
-use Rattle.der_text.proofs.Parts.{part_inside, no_part_inside, no_part_unread}
+use Rattle.der_text.proofs.Paths.{part_inside, no_part_inside, no_part_unread}
 use Rattle.der_text.proofs.part.part_of_element.Goals as goal
 use Rattle.der_text.proofs.part.part_of_element.Goals.{in_default-via-in-Ok+else-has_constructed_bit, in_default-via-in_default}
 

@@ -1,5 +1,5 @@
 use Rattle.der_text.specs.Front.{front}
-use Rattle.der_text.proofs.Parts.{split_found, split_never_fails}
+use Rattle.der_text.proofs.Paths.{split_found, split_never_fails}
 use Rattle.der_text.proofs.part.split_element.Goals as goal
 
 pub returns-in-Ok-clause-split : goal.returns-in-Ok-clause-split

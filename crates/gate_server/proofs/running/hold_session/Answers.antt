@@ -19,7 +19,8 @@ returns-in-Ok g c =
     (talk_of before mounted k (g.E.Entropy.told c.args.entropy.now) begun (g.S.Source.told c.args.source.now) (g.K.Sink.told c.args.sink.now)) after left clock entropy source sink)
     c.in-Ok.ensures.clock c.answer_messages.ensures.ended in
     record {
-      holds = session_of (g.P.Plant.told c.args.plant.now) mounted left (g.C.Clock.told c.args.clock.now) clock (g.E.Entropy.told c.args.entropy.now) entropy (g.S.Source.told c.args.source.now) source
+      holds = session_of c.what_steps_keep.ensures.more c.what_steps_keep.ensures.extends c.what_steps_keep.ensures.recorded c.what_steps_keep.ensures.counted
+          c.what_steps_keep.ensures.settled (g.P.Plant.told c.args.plant.now) mounted left (g.C.Clock.told c.args.clock.now) clock (g.E.Entropy.told c.args.entropy.now) entropy (g.S.Source.told c.args.source.now) source
           (g.K.Sink.told c.args.sink.now) sink status before after c.in-Ok.ensures.settled c.in-Ok.ensures.legal c.in-Ok.ensures.stands c.in-Ok.ensures.bytes
-          c.in-Ok.ensures.later c.in-Ok.ensures.signer ended c.answer_messages.ensures.stands c.answer_messages.ensures.recorded c.answer_messages.ensures.one_body;
+          c.in-Ok.ensures.later c.in-Ok.ensures.signer ended c.answer_messages.ensures.stands c.answer_messages.ensures.legal c.answer_messages.ensures.one_body c.answer_messages.ensures.one_order;
     }

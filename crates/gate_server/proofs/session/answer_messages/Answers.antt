@@ -1,4 +1,4 @@
-use Rattle.std.proofs.Common.{refl, sym, ap, subst, ◌∙◌, inl, arith}
+use Rattle.std.proofs.Common.{refl, sym, ap, subst, inl, arith}
 use Rattle.wire_front.specs.Stream.{StreamState}
 use Rattle.gate_server.specs.Session.{talk_of, begun, Talked}
 use Rattle.gate_server.proofs.Talks.{talked_none, talked_more}
@@ -10,7 +10,7 @@ returns-in_default-clause-ended g c =
     (g.K.Sink.told c.args.sink.now) in
     record {
       last = talk;
-      talked = talked_none c.one_passing.ensures.none c.one_passing.ensures.more c.what_follows_a_reading.ensures talk;
+      talked = talked_none c.one_passing.ensures.none c.one_passing.ensures.more c.what_steps_keep.ensures.more talk;
       stream = begun;
       ends = inl (record { state = refl; passes = c.one_passing.ensures.none begun (g.S.Source.told c.args.source.now); sink = refl });
     }
@@ -22,10 +22,9 @@ loop-status-init g c =
     record {
       caller = c.in-Ok.ensures;
       talked = subst (λ (stream : StreamState). Talked (talk begun) (talk stream)) (sym c.new-stream.ensures)
-          (talked_none c.one_passing.ensures.none c.one_passing.ensures.more c.what_follows_a_reading.ensures (talk begun));
+          (talked_none c.one_passing.ensures.none c.one_passing.ensures.more c.what_steps_keep.ensures.more (talk begun));
       fits = omega (arith, ap (λ (s : StreamState). s.taken) c.new-stream.ensures);
       stands = c.requires;
-      recorded = λ recorded. recorded;
     }
 
 pub loop-status-preserved : goal.loop-status-preserved
@@ -34,8 +33,7 @@ loop-status-preserved g c =
     let now = c.turn-turned.ensures in
     record {
       caller = before.caller;
-      talked = talked_more c.one_passing.ensures.none c.one_passing.ensures.more c.what_follows_a_reading.ensures _ _ _ before.talked c.in_default-turned.ensures.turns now.read_later now.put_later;
+      talked = talked_more c.one_passing.ensures.none c.one_passing.ensures.more c.what_steps_keep.ensures.more _ _ _ before.talked c.in_default-turned.ensures.turns now.read_later now.put_later;
       fits = now.fits;
       stands = now.stands;
-      recorded = λ recorded. now.recorded (before.recorded recorded);
     }

@@ -1,5 +1,4 @@
 use Rattle.std.proofs.Common.{◌≡◌, ◌+◌, ◌-◌, ◌≤◌, length}
-use Rattle.gate_machine.specs.Step.{IsRecorded, signer_of}
 use Rattle.gate_engine.specs.Engine.{StandsForPlant}
 use Rattle.wire_front.specs.Stream.{most_taken}
 use Rattle.gate_server.specs.Session.{acme, talk_of, begun, Talked}
@@ -12,7 +11,6 @@ invariant-loop-status g l = record {
       (talk_of l.engine (g.P.Plant.told l.plant) (g.C.Clock.told l.clock) (g.E.Entropy.told l.entropy) l.stream (g.S.Source.told l.source) (g.K.Sink.told l.sink));
   fits : l.stream.taken ≤ most_taken;
   stands : StandsForPlant l.engine (g.P.Plant.told l.plant);
-  recorded : IsRecorded (signer_of (g.P.Plant.told l.fn.plant)) l.fn.engine.history → IsRecorded (signer_of (g.P.Plant.told l.plant)) l.engine.history;
 }
 
 abbrev pub decreases-loop-status : goal.decreases-loop-status

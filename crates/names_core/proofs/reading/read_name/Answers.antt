@@ -1,4 +1,5 @@
-use Rattle.names_core.proofs.NameLemmas.{IsName-Gives, IsNameOf-Gives, IsFaultOf-Gives}
+use Rattle.names_core.proofs.NameLemmas.{IsNameOf-Gives, IsFaultOf-Gives}
+use Rattle.names_core.proofs.TargetText.{IsName-Gives}
 use Rattle.names_core.proofs.reading.read_name.Goals as goal
 
 pub returns-clause-name : goal.returns-clause-name

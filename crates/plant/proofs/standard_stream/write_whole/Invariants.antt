@@ -1,4 +1,4 @@
-use Rattle.std.proofs.Common.{◌≡◌, ℕ, List, ◌++◌, length}
+use Rattle.std.proofs.Common.{length}
 use Rattle.plant.proofs.Pieces.{Wrote}
 use Rattle.plant.proofs.standard_stream.write_whole.Given as goal
 

@@ -18,6 +18,7 @@ returns-clause-ok c =
       profile = c.in_ok-profile.profile;
     } in
     record {
+      fits = search rules;
       plan = plan;
       planned = record {
         fields = view.fields fields;
@@ -28,7 +29,7 @@ returns-clause-ok c =
         first = refl;
         last = refl;
         common = refl;
-        alg = c.in_ok-profile.ensures.alg;
+        profile = c.in_ok-profile.ensures.example;
         sound = search rules;
       };
       spelled = c.in_ok-build.ensures.body;

@@ -1,7 +1,9 @@
-use Rattle.std.proofs.Common.{[], Some, subst}
+use Rattle.std.proofs.Common.{[], Some, refl, sym, subst}
 use Rattle.gate_base.specs.declared.sixteen.Sixteen.{Sixteen}
 use Rattle.gate_machine.specs.declared.answer.Answer.{Answer}
 use Rattle.gate_machine.specs.Answer.{MayBe}
+use Rattle.gate_engine.specs.Engine.{CarriesOut}
+use Rattle.gate_engine.proofs.Steps.{carries_said}
 use Rattle.gate_engine.proofs.engine.Engine.carry_out.Goals as goal
 
 some_draw : Sixteen
@@ -12,6 +14,11 @@ unreachable-requires g c =
     let wrong = subst (λ (a : Answer). MayBe (Some some_draw) a) c.in-NeedDraw.is (c.requires.may some_draw) in
     cc wrong
 
-pub returns-in-Say-clause-disk : goal.returns-in-Say-clause-disk
-returns-in-Say-clause-disk g c = λ fault.
-    absurd (subst (λ (a : Answer). MayBe (Some some_draw) a) c.in-Say.is (c.requires.may some_draw) fault)
+pub returns-in-Say : goal.returns-in-Say
+returns-in-Say g c =
+    let told = g.P.Plant.told c.args.plant.now in
+    let other = subst (λ (a : Answer). MayBe (Some some_draw) a) c.in-Say.is (c.requires.may some_draw) in
+    record {
+      carries = subst (λ (a : Answer). CarriesOut a c.args.self.now.history told told c.in-Say.reply c.args.self.now) (sym c.in-Say.is)
+          (carries_said c.in-Say.reply c.args.self.now.history told c.args.self.now other (refl, c.requires.settled) c.requires.stands);
+    }

@@ -1,5 +1,5 @@
 use Rattle.std.proofs.Common.{◌≡◌, ℕ, inl, inr, ap, refl, subst}
-use Rattle.gate_machine.specs.Step.{Held}
+use Rattle.gate_machine.specs.Move.{Held}
 use Rattle.gate_engine.specs.Engine.{IsBadAt}
 use Rattle.gate_engine.proofs.Stands.{stands_same}
 use Rattle.gate_engine.proofs.Starts.{not_begun, bad}

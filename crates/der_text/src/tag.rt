@@ -1,0 +1,25 @@
+//! The tags of universal types (X.680, section 8.4), each with its constructed bit where DER sets it (X.690, section 8.1.2).
+
+pub const BOOLEAN: u8 = 0x01;
+
+pub const INTEGER: u8 = 0x02;
+
+pub const BIT_STRING: u8 = 0x03;
+
+pub const OCTET_STRING: u8 = 0x04;
+
+pub const NULL: u8 = 0x05;
+
+pub const OBJECT_IDENTIFIER: u8 = 0x06;
+
+pub const UTF8_STRING: u8 = 0x0c;
+
+pub const PRINTABLE_STRING: u8 = 0x13;
+
+pub const UTC_TIME: u8 = 0x17;
+
+pub const GENERALIZED_TIME: u8 = 0x18;
+
+pub const SEQUENCE: u8 = 0x30;
+
+pub const SET: u8 = 0x31;

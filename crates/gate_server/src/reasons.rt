@@ -1,0 +1,143 @@
+//! What is printed on standard error: the line `gate: STATUS`, and behind it, indented by two spaces, why.
+
+use crate::status::Status;
+use plant::FileFault;
+use std::io::{self, ErrorKind};
+
+/// The two paths among the words.
+#[derive(Clone, Copy)]
+pub struct Paths<'a> {
+    pub journal: &'a str,
+    pub settings: &'a str,
+}
+
+/// What is known of the cause beside the status.
+#[derive(Clone, Copy)]
+pub enum Why {
+    Unknown,
+    /// The word for the signer is of neither form.
+    Signer,
+    /// The system's error of the file or stream that the status names.
+    System(io::Error),
+    /// What is wrong with the journal's file.
+    File(FileFault),
+    /// The settings have so many bytes.
+    SettingsHave(u64),
+}
+
+/// Prints the lines of a status; Ok has none. Where standard error can't be written, nothing is told.
+pub fn tell(rt: &HostRuntime, paths: Paths<'_>, status: Status, why: Why) {
+    if status == Status::Ok {
+        return;
+    }
+    let name = status.name();
+    let _ = eprintln!(rt; "gate: {name}");
+    let _ = match status {
+        Status::Usage => tell_usage(rt, why),
+        Status::DiskFault => tell_disk(rt, paths.journal, why),
+        Status::ReadFault { settings: true } => tell_system(rt, paths.settings, why),
+        Status::ReadFault { settings: false } => tell_system(rt, "standard input", why),
+        Status::WriteFault => tell_system(rt, "standard output", why),
+        Status::NotBuilt => tell_not_built(rt, paths.settings, why),
+        _ => tell_rest(rt, paths.journal, status),
+    };
+}
+
+fn tell_usage(rt: &HostRuntime, why: Why) -> io::Result<()> {
+    eprintln!(rt; "usage: gate JOURNAL CONF SIGNER WORDS")?;
+    match why {
+        Why::Signer => {
+            eprintln!(rt;
+                "  SIGNER is standin:HEX with 2 to 128 hexadecimal digits, an even number,"
+            )?;
+            eprintln!(rt; "  or loopback:PORT with a port from 1 to 65535")
+        }
+        _ => eprintln!(rt; "  JOURNAL and CONF are paths, WORDS is begin or session"),
+    }
+}
+
+fn tell_disk(rt: &HostRuntime, path: &str, why: Why) -> io::Result<()> {
+    match why {
+        Why::File(FileFault::System(error)) | Why::System(error) => {
+            eprintln!(rt; "  {path}: {error}")?;
+            tell_help(rt, error.kind())
+        }
+        Why::File(FileFault::NotRegular) => eprintln!(rt; "  {path}: it is no regular file"),
+        Why::File(FileFault::Locked) => eprintln!(rt; "  {path}: another gate has the journal"),
+        Why::File(FileFault::Unlinked) => {
+            eprintln!(rt; "  {path}: the file was removed while the gate had it")
+        }
+        Why::File(FileFault::Cut { length, known }) => {
+            eprintln!(rt;
+                "  {path}: the file was cut from {known} bytes to {length} while the gate had it"
+            )
+        }
+        Why::File(FileFault::TooLong { limit }) => {
+            eprintln!(rt; "  {path}: files may have {limit} bytes at most (ulimit -f)")
+        }
+        _ => Ok(()),
+    }
+}
+
+fn tell_help(rt: &HostRuntime, kind: ErrorKind) -> io::Result<()> {
+    match kind {
+        ErrorKind::NotFound => {
+            eprintln!(rt;
+                "  no journal was begun there: begin creates the file, but not its folder"
+            )
+        }
+        ErrorKind::StorageFull | ErrorKind::QuotaExceeded => {
+            eprintln!(rt;
+                "  there is no room: what was answered stands, and the next session goes on with more room"
+            )
+        }
+        _ => Ok(()),
+    }
+}
+
+fn tell_system(rt: &HostRuntime, what: &str, why: Why) -> io::Result<()> {
+    match why {
+        Why::System(error) => eprintln!(rt; "  {what}: {error}"),
+        _ => Ok(()),
+    }
+}
+
+fn tell_not_built(rt: &HostRuntime, path: &str, why: Why) -> io::Result<()> {
+    match why {
+        Why::SettingsHave(length) => {
+            eprintln!(rt;
+                "  {path}: it has {length} bytes, and only empty settings are read so far"
+            )
+        }
+        _ => eprintln!(rt;
+            "  standard input: the bytes behind the last reply's message are no message"
+        ),
+    }
+}
+
+fn tell_rest(rt: &HostRuntime, path: &str, status: Status) -> io::Result<()> {
+    match status {
+        Status::NotBegun => eprintln!(rt;
+            "  {path}: no journal was begun in this file: begin does, in an empty or absent one"
+        ),
+        Status::NotEmpty { length } => {
+            eprintln!(rt;
+                "  {path}: it has {length} bytes, and a journal is begun in an empty or absent file"
+            )
+        }
+        Status::JournalBad { at } => eprintln!(rt;
+            "  {path}: it is no legal journal from byte {at} on"
+        ),
+        Status::StreamLong => eprintln!(rt;
+            "  standard input: 1073741824 bytes came without an end"
+        ),
+        Status::ClockFault => eprintln!(rt; "  the system's clock can't be read"),
+        Status::ClockRange { reading } => {
+            eprintln!(rt;
+                "  the system's clock reads {reading} seconds since 1970: before 2025-09-15 or after 2099-12-31"
+            )
+        }
+        Status::NoMemory => eprintln!(rt; "  out of memory"),
+        _ => Ok(()),
+    }
+}

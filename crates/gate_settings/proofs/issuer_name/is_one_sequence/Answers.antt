@@ -1,5 +1,0 @@
-use Rattle.gate_settings.proofs.IssuerNames.{several}
-use Rattle.gate_settings.proofs.issuer_name.is_one_sequence.Goals as goal
-
-pub returns-in-len2-up : goal.returns-in-len2-up
-returns-in-len2-up c = several _ c.in-len2-up.len_at_least
