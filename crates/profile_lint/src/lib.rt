@@ -11,6 +11,7 @@ mod laws;
 mod lint;
 mod names;
 mod subject;
+mod twice;
 mod usage;
 mod validity;
 

@@ -10,10 +10,11 @@ ghost use Rattle.profile_lint.specs.Rules as rules;
 ghost use Rattle.profile_lint.specs.View as shown;
 
 use crate::contents::Judged;
+use crate::twice::has_twice;
 use cert_fields::target_of_general_name;
 use der_text::tag::SEQUENCE;
 use der_text::{Tree, are_none, constructed_parts};
-use gate_base::{Address, Name, NoMemory, Target, Targets};
+use gate_base::{Address, NoMemory, Target, Targets};
 use names_core::{NameRead, Suffixes, is_reserved, read_name, target_text};
 use std::alloc::Global;
 use tbs_shape::Extension;
@@ -166,51 +167,6 @@ fn has_bad_dns_name(alloc: Global, parts: &[Tree<'_>]) -> Result<bool, NoMemory>
     Ok(false)
 }
 
-fn is_same_name(name: &Name, other: &Name) -> bool
-    ensures { result ≡ spec.name_eq name.now other.now }
-{
-    name.labels == other.labels && name.wild == other.wild
-}
-
-fn is_same_address(address: &Address, other: &Address) -> bool
-    ensures { result ≡ spec.address_eq address.now other.now }
-{
-    match (address, other) {
-        (Address::V4(octets), Address::V4(others)) => octets.as_slice() == others.as_slice(),
-        (Address::V6(octets), Address::V6(others)) => octets.as_slice() == others.as_slice(),
-        (Address::V4(_), Address::V6(_)) | (Address::V6(_), Address::V4(_)) => false,
-    }
-}
-
-fn is_same_target(target: &Target, other: &Target) -> bool
-    ensures { result ≡ spec.target_eq target.now other.now }
-{
-    match (target, other) {
-        (Target::Dns(name), Target::Dns(other)) => is_same_name(name, other),
-        (Target::Ip(address), Target::Ip(other)) => is_same_address(address, other),
-        (Target::Dns(_), Target::Ip(_)) | (Target::Ip(_), Target::Dns(_)) => false,
-    }
-}
-
-fn is_among(target: &Target, others: &[Target]) -> bool
-    ensures { result ≡ list_any (spec.target_eq target.now) others.now }
-{
-    others.iter().any(|other| is_same_target(target, other))
-}
-
-fn has_twice(targets: &[Target]) -> bool
-    ensures { result ≡ parts_spec.has_twice spec.target_eq targets.now }
-{
-    let mut rest = targets;
-    while let [first, others @ ..] = rest {
-        if is_among(first, others) {
-            return true;
-        }
-        rest = others;
-    }
-    false
-}
-
 /// `targets` are those that the parts show.
 pub fn a_name_is_bad(
     alloc: Global,
@@ -220,7 +176,7 @@ pub fn a_name_is_bad(
     requires { targets.now ≡ spec.targets_of (nodes parts.now) }
     ensures { IfOk result (λ bad. bad ≡ rules.a_name_is_bad (nodes parts.now)) }
 {
-    Ok(has_bad_dns_name(alloc, parts)? || has_twice(targets))
+    Ok(has_bad_dns_name(alloc, parts)? || has_twice(alloc, targets)?)
 }
 
 fn has_no_base(suffixes: &Suffixes, target: &Target) -> bool
