@@ -1,5 +1,8 @@
 pub mod Causes
 pub mod Plant
+pub mod Tearing
+pub mod Stops
+pub mod Joining
 pub mod Clock
 pub mod Entropy
 pub mod Loopback
