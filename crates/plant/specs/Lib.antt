@@ -7,4 +7,7 @@ pub mod Clock
 pub mod Entropy
 pub mod Loopback
 pub mod Stream
+pub mod GhostList
+pub mod Past
+pub mod MemoryDisk
 pub mod Memory

@@ -82,6 +82,7 @@ fn counted<T: Drop>(
 
 impl<R: Net + rt::Clock> Plant for FilePlant<'_, R> {
     ghost use Rattle.std.specs.Prelude.{None};
+    ghost use Rattle.plant.specs.Stops.{no_stops};
 
     ghost told = { λ p. record {
       disk = record { bytes = None; faults = p.disk_faults };
