@@ -233,7 +233,8 @@ impl Plant for MemoryPlant {
         ensures moments { Follows (Torn at (length piece.now)) (plant_stops self.old) (plant_stops self.new) }
         ensures listed { IsSome (fail_at self.old.fails self.new.calls) → IsErr result }
     {
-        self.past.push(Snapshot::of(&self.content));
+        let before = Snapshot::of(&self.content);
+        self.past.push(before);
         tear(&mut self.content, at, piece.len());
         if begin_call(&mut self.calls, &self.fails).is_some() {
             rise(&mut self.disk_faults);
@@ -257,7 +258,8 @@ impl Plant for MemoryPlant {
         ensures moments { Stays (plant_stops self.old) (plant_stops self.new) }
         ensures failing { IsErr result ↔ IsSome (fail_at self.old.fails self.new.calls) }
     {
-        if begin_call(&mut self.calls, &self.fails).is_some() {
+        let failing = begin_call(&mut self.calls, &self.fails);
+        if failing.is_some() {
             rise(&mut self.disk_faults);
             return Err(DiskFault);
         }
