@@ -1,5 +1,5 @@
 -- Runs of calls, one after the other.
-use Rattle.std.proofs.Common.{◌≡◌, ◌++◌, ◌∷◌, [], ◌⊎◌, ℕ, ◌≤◌, List, inl, inr, ⊎_elim, arith}
+use Rattle.std.proofs.Common.{◌≡◌, ◌++◌, ◌∷◌, [], ◌⊎◌, ℕ, List, inl, inr, ⊎_elim, arith}
 use Rattle.plant.specs.Stops.{Stops, LeftNow, LeftSince}
 use Rattle.plant.specs.Joining.{Joins, Stays, Follows, MaySend}
 

@@ -1,9 +1,9 @@
 -- What a call of a plant in memory makes of the pairs that a stop may leave.
-use Rattle.std.proofs.Common.{◌≡◌, ◌⊎◌, ℕ, ◌≤◌, List, [], ◌∷◌, ◌++◌, length, inl, inr, ⊎_elim, refl, sym, ap, subst, subst₂, Some, arith}
+use Rattle.std.proofs.Common.{◌≡◌, ◌⊎◌, ℕ, ◌≤◌, List, [], ◌∷◌, ◌++◌, length, inl, inr, refl, sym, ap, subst, subst₂, Some, arith}
 use Rattle.plant.specs.Stops.{Stops, LeftNow, IsDurable}
 use Rattle.plant.specs.Joining.{Joins, Stays, Follows, MaySend}
 use Rattle.plant.specs.Tearing.{Torn}
-use Rattle.plant.specs.Past.{Content, IsPair, HadBeen, LeftSinceMoment, stops_of, none_left}
+use Rattle.plant.specs.Past.{Content, IsTorn, IsPair, LeftSinceMoment, stops_of, none_left}
 use Rattle.plant.specs.Plant.{overwritten}
 use Rattle.plant.specs.Memory.{PlantMemory, content_of, plant_stops, called, wrote, synced}
 use Rattle.plant.proofs.Tears.{torn_none, torn_whole}
@@ -145,3 +145,10 @@ pub new_stops : (plant : PlantMemory) (disk : List ℕ) → plant.bytes ≡ disk
 unfolding plant_stops
 new_stops plant disk bytes stable written past = stands_as plant (record { bytes = disk; stable = disk; written = []; sent = plant.sent }) []
     (λ content before. IsDurable (Some disk) (stops_of content before)) bytes stable written refl past (stable_behind disk plant.sent)
+
+-- of a disk with one range written since it was stable
+pub left_torn : (plant : PlantMemory) (disk image : List ℕ) (at count : ℕ) → plant.stable ≡ disk → plant.written ≡ (at, count) ∷ [] → plant.sent ≡ []
+    → Torn at count disk image → LeftNow (plant_stops plant) image []
+unfolding plant_stops
+left_torn plant disk image at count stable written sent torn =
+    inl (inr (subst₂ (λ durable ranges. IsTorn durable ranges image) (sym stable) (sym written) (disk, refl, torn)), sym sent)

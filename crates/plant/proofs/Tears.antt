@@ -1,5 +1,5 @@
 -- What is written, in whole or not at all, is torn within its range.
-use Rattle.std.proofs.Common.{◌≡◌, ◌-◌, ℕ, ◌+◌, ◌≤◌, max, List, ◌++◌, length, take, drop, append_assoc, refl, sym, ap, ◌∙◌, arith}
+use Rattle.std.proofs.Common.{◌≡◌, ◌-◌, ℕ, ◌+◌, ◌≤◌, List, ◌++◌, length, take, drop, append_assoc, refl, sym, ap, ◌∙◌, arith}
 use Rattle.std.proofs.lemmas.List.{take_at, drop_at, drop-drop, length-take, length-drop, length-append}
 use Rattle.plant.specs.Plant.{overwritten}
 use Rattle.plant.specs.Tearing.{Torn}

@@ -1,5 +1,5 @@
-ghost use Rattle.std.specs.Prelude.{◌≡◌, ℕ, List, [], ◌∷◌, take, drop, length, ◌≤◌, Some};
-ghost use Rattle.plant.specs.Stops.{LeftNow, IsDurable};
+ghost use Rattle.std.specs.Prelude.{◌≡◌, [], ◌∷◌};
+ghost use Rattle.plant.specs.Stops.{LeftNow};
 ghost use Rattle.plant.specs.Memory.{plant_stops};
 
 use super::*;
