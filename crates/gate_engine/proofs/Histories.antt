@@ -3,7 +3,7 @@ use Rattle.std.proofs.Common.{◌≡◌, ◌≢◌, ℕ, inl, inr, List, [], ◌
 use Rattle.gate_entries.specs.declared.entry.Entry.{Entry}
 use Rattle.gate_entries.specs.Spelling.{entry_bytes, IsEntry}
 use Rattle.gate_machine.specs.History.{Follows, EachFollows, Legal}
-use Rattle.journal_core.specs.Journal.{IsJournal, BreaksAt}
+use Rattle.plain_journal.specs.Journal.{IsJournal, BreaksAt}
 use Rattle.gate_engine.specs.Engine.{payloads_of, IsOfNoHistory, IsBadAt}
 
 module _ (one_spelling : (left right : Entry) → IsEntry left → IsEntry right → entry_bytes left ≡ entry_bytes right → left ≡ right) where

@@ -1,7 +1,7 @@
 -- What is at hand when the signer is called.
 use Rattle.std.proofs.Common.{◌≡◌, ◌⊎◌, ℕ, ◌+◌, ◌≤◌, List, [], ◌∷◌, ◌++◌, length, true, Option, Some, None, refl, sym, ap, subst, ◌∙◌, inl, inr, arith}
 use Rattle.plant.specs.Causes.{Rose}
-use Rattle.plant.specs.Plant.{PlantTold, LeavesSigner}
+use Rattle.plant.specs.Plant.{SignerTold, PlantTold}
 use Rattle.gate_entries.specs.declared.entry.Entry.{Entry}
 use Rattle.gate_entries.specs.declared.reply.Reply.{Reply}
 use Rattle.gate_entries.specs.Spelling.{IsEntry}
@@ -11,11 +11,10 @@ use Rattle.gate_machine.specs.Answer.{IsReadyToSend}
 use Rattle.gate_entries.specs.declared.reply.Reply.TheVariants.{Issued, DiskFault}
 use Rattle.gate_machine.specs.declared.answer.Answer.TheVariants.{Send}
 use Rattle.gate_machine.specs.Move.{Held, Holds, Waits, SignerCall, Sent, Issues}
-use Rattle.gate_machine.specs.Step.{SignerTold, GivesCall, signer_of}
+use Rattle.gate_machine.specs.Step.{GivesCall}
 use Rattle.gate_engine.specs.Engine.{StandsForPlant, Leaves, CarriesOut}
 use Rattle.gate_engine.specs.declared.sending.Signing.{Signing}
 use Rattle.gate_engine.specs.Signing.{signed_as, IsSigning, MayBeSigned, KeepsAs, UnsignedAs, SignedAs, SignsAs}
-use Rattle.gate_engine.proofs.Steps.{signer_left}
 
 same_entry : (signing : Signing) (entry : Entry) (signature : List ℕ) → IsSigning signing entry → signed_as signing signature ≡ signed_entry entry signature
 same_entry signing entry signature is = rw (is.number, is.moment, is.caller, is.order) refl
@@ -80,13 +79,13 @@ signs_sent history entry signing call reply new is signs = elim signs [
 
 -- the entry is durable, and its body was signed, or it wasn't
 pub carries_signed : (history now : List Entry) (entry : Entry) (signing : Signing) (told mid told' : PlantTold) (reply : Reply) (new : Held) → IsSigning signing entry
-    → now ≡ history ++ entry ∷ [] → LeavesSigner told mid → told.disk_faults ≤ mid.disk_faults → SignsAs signing now mid told' reply new → Leaves mid told' reply new
+    → now ≡ history ++ entry ∷ [] → mid.signer ≡ told.signer → told.disk.faults ≤ mid.disk.faults → SignsAs signing now mid told' reply new → Leaves mid told' reply new
     → CarriesOut (Send entry) history told told' reply new
 carries_signed history now entry signing told mid told' reply new is more same later signs leaves =
     let signed : SignsAs signing (history ++ entry ∷ []) mid told' reply new = subst (λ (h : List Entry). SignsAs signing h mid told' reply new) more signs in
     record {
       call = signed.call;
-      gives = subst (λ (s : SignerTold). GivesCall s (signer_of told') signed.call) (signer_left told mid same) signed.gives;
+      gives = subst (λ (s : SignerTold). GivesCall s told'.signer signed.call) same signed.gives;
       does = inr (signs_sent history entry signing signed.call reply new is signed.signs);
       leaves = record {
         stands = leaves.stands;
@@ -96,12 +95,12 @@ carries_signed history now entry signing told mid told' reply new is more same l
     }
 
 -- the disk failed before the signer was called
-pub carries_unsent : (history : List Entry) (entry : Entry) (told told' : PlantTold) (new : Held) → LeavesSigner told told' → Waits history entry new
-    → StandsForPlant new told' → told.disk_faults ≤ told'.disk_faults → Rose told.disk_faults told'.disk_faults
+pub carries_unsent : (history : List Entry) (entry : Entry) (told told' : PlantTold) (new : Held) → told'.signer ≡ told.signer → Waits history entry new
+    → StandsForPlant new told' → told.disk.faults ≤ told'.disk.faults → Rose told.disk.faults told'.disk.faults
     → CarriesOut (Send entry) history told told' DiskFault new
 carries_unsent history entry told told' new same waits stands later rose = record {
   call = None;
-  gives = signer_left told told' same;
+  gives = same;
   does = inr (inl (record { uncalled = refl; fault = refl; waits = waits }));
   leaves = record { stands = stands; later = later; cause = λ is. rose };
 }

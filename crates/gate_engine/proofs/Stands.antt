@@ -3,7 +3,7 @@ use Rattle.std.proofs.Common.{◌≡◌, ℕ, ◌+◌, ◌≤◌, List, [], ◌�
 use Rattle.std.specs.Prelude.{sum_by}
 use Rattle.std.specs.Option.{ForSome}
 use Rattle.std.proofs.lemmas.List.{map_push}
-use Rattle.journal_core.specs.Journal.{IsJournal, StandsFor, journal_of}
+use Rattle.plain_journal.specs.Journal.{IsJournal, StandsFor, journal_of}
 use Rattle.gate_entries.specs.declared.entry.Entry.{Entry}
 use Rattle.gate_entries.specs.Spelling.{entry_bytes}
 use Rattle.gate_machine.specs.History.{journal_size}

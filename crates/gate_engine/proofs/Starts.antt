@@ -1,10 +1,10 @@
 -- What a start tells of the bytes.
 use Rattle.std.proofs.Common.{◌≡◌, ◌≢◌, ◌≤◌, ℕ, List, [], ◌∷◌, ◌++◌, length, get_or, take, drop, Err, ap, sym, arith, inl, inr, refl, subst}
 use Rattle.std.specs.Prelude.{IsErrOf}
-use Rattle.journal_core.specs.declared.fault.MountFault.{MountFault}
-use Rattle.journal_core.specs.declared.fault.MountFault.TheVariants as mounts
-use Rattle.journal_core.specs.Journal.{head}
-use Rattle.journal_core.specs.Mounting.{Refuses}
+use Rattle.plain_journal.specs.declared.fault.MountFault.{MountFault}
+use Rattle.plain_journal.specs.declared.fault.MountFault.TheVariants as mounts
+use Rattle.plain_journal.specs.Journal.{head}
+use Rattle.plain_journal.specs.Mounting.{Refuses}
 use Rattle.gate_engine.specs.declared.fault.StartFault.{StartFault}
 use Rattle.gate_engine.specs.declared.fault.StartFault.TheVariants as starts
 use Rattle.gate_entries.specs.declared.entry.Entry.{Entry}

@@ -1,7 +1,7 @@
 -- What the parts of an answer make of a step.
 use Rattle.std.proofs.Common.{◌≡◌, ◌≢◌, ℕ, ◌≤◌, inl, inr, List, [], ◌∷◌, ◌++◌, Option, Some, None, true, false, refl, subst, sym, ap, ◌∙◌, arith}
 use Rattle.plant.specs.Causes.{Rose}
-use Rattle.plant.specs.Plant.{PlantTold, LeavesSigner}
+use Rattle.plant.specs.Plant.{SignerTold, PlantTold}
 use Rattle.plant.specs.Clock.{ClockTold, Reads}
 use Rattle.plant.specs.Entropy.{EntropyTold, Draws}
 use Rattle.gate_base.specs.declared.sixteen.Sixteen.{Sixteen}
@@ -15,12 +15,8 @@ use Rattle.gate_machine.specs.declared.answer.Answer.{Answer}
 use Rattle.gate_machine.specs.declared.answer.Answer.TheVariants.{Say, Write, Send, NeedDraw}
 use Rattle.gate_machine.specs.Answer.{Answers, IsReady, MayBe, reply_of}
 use Rattle.gate_machine.specs.Move.{Held, Holds, Waits, nothing, no_reading, Settles, EndsRemount, RemountFails}
-use Rattle.gate_machine.specs.Step.{SignerTold, Outside, Gives, Step, signer_of}
+use Rattle.gate_machine.specs.Step.{Outside, Gives, Step}
 use Rattle.gate_engine.specs.Engine.{StandsForPlant, Leaves, CarriesOut, ActsBy, AsksBy, GoesBy, outside_of, state_of}
-
--- a call of the disk leaves the signer as it was
-pub signer_left : (told told' : PlantTold) → LeavesSigner told told' → signer_of told' ≡ signer_of told
-signer_left told told' same = rw (same.sent, same.answers, same.signer_faults) refl
 
 -- a call that leaves the plant alone, and tells no fault of the disk
 leaves_same : (told : PlantTold) (reply : Reply) (new : Held) → reply ≢ DiskFault → StandsForPlant new told → Leaves told told reply new
@@ -58,21 +54,21 @@ carries_memory answer history told new held stands = record {
 }
 
 -- an entry is committed, or the disk failed
-module _ (history : List Entry) (entry : Entry) (told told' : PlantTold) (new : Held) (same : LeavesSigner told told') (stands : StandsForPlant new told')
-    (later : told.disk_faults ≤ told'.disk_faults) where
+module _ (history : List Entry) (entry : Entry) (told told' : PlantTold) (new : Held) (same : told'.signer ≡ told.signer) (stands : StandsForPlant new told')
+    (later : told.disk.faults ≤ told'.disk.faults) where
   pub carries_written : (reply : Reply) → reply ≡ reply_of entry → reply ≢ DiskFault → Holds new (history ++ entry ∷ [])
       → CarriesOut (Write entry) history told told' reply new
   carries_written reply is other held = record {
     call = None;
-    gives = signer_left told told' same;
+    gives = same;
     does = inr (inl (is, held), refl);
     leaves = record { stands = stands; later = later; cause = λ fault. absurd (other fault) };
   }
 
-  pub carries_lost : Waits history entry new → Rose told.disk_faults told'.disk_faults → CarriesOut (Write entry) history told told' DiskFault new
+  pub carries_lost : Waits history entry new → Rose told.disk.faults told'.disk.faults → CarriesOut (Write entry) history told told' DiskFault new
   carries_lost waits rose = record {
     call = None;
-    gives = signer_left told told' same;
+    gives = same;
     does = inr (inr (refl, waits), refl);
     leaves = record { stands = stands; later = later; cause = λ is. rose };
   }
@@ -182,8 +178,8 @@ pub goes_allowed : (history : List Entry) (told told' : PlantTold) (old now : Ou
 goes_allowed history told told' old now caller command reply new may asks =
     record { given = asks.given; gives = asks.gives; goes = inr (may, asks.asks); leaves = asks.leaves }
 
-leaves_outside : (told told' : PlantTold) (clock : ClockTold) (entropy : EntropyTold) → LeavesSigner told told' → outside_of told' clock entropy ≡ outside_of told clock entropy
-leaves_outside told told' clock entropy same = ap (λ (s : SignerTold). record { clock = clock; entropy = entropy; signer = s }) (signer_left told told' same)
+leaves_outside : (told told' : PlantTold) (clock : ClockTold) (entropy : EntropyTold) → told'.signer ≡ told.signer → outside_of told' clock entropy ≡ outside_of told clock entropy
+leaves_outside told told' clock entropy same = ap (λ (s : SignerTold). record { clock = clock; entropy = entropy; signer = s }) same
 
 remount_of : (old : Held) (loose : Option Entry) → old.loose ≡ loose → old.loose ≢ None → (reply : Reply) (new : Held) → EndsRemount reply → new ≡ old
     → RemountFails old nothing reply new
@@ -191,19 +187,19 @@ remount_of old None is some reply new ends held = absurd (some is)
 remount_of old (Some entry) is some reply new ends held = record { entry = entry; was_loose = is; gave = refl; ends = ends; held = held }
 
 pub step_nowhere : (old : Held) (told told' : PlantTold) (clock : ClockTold) (entropy : EntropyTold) (caller : Caller) (command : Command) (reply : Reply) (new : Held)
-    → LeavesSigner told told' → old.loose ≢ None → EndsRemount reply → new ≡ old → told.disk_faults ≤ told'.disk_faults
-    → (reply ≡ DiskFault → Rose told.disk_faults told'.disk_faults)
+    → told'.signer ≡ told.signer → old.loose ≢ None → EndsRemount reply → new ≡ old → told.disk.faults ≤ told'.disk.faults
+    → (reply ≡ DiskFault → Rose told.disk.faults told'.disk.faults)
     → Step (state_of old told clock entropy) caller command reply (state_of new told' clock entropy)
 step_nowhere old told told' clock entropy caller command reply new same some ends held later cause = record {
   given = nothing;
   moves = inl (remount_of old old.loose refl some reply new ends held);
-  gives = record { reading = refl; draw = refl; call = signer_left told told' same };
+  gives = record { reading = refl; draw = refl; call = same };
   later = later;
   cause = cause;
 }
 
 pub step_settled : (old mid : Held) (told told' told'' : PlantTold) (clock clock' : ClockTold) (entropy entropy' : EntropyTold) (caller : Caller) (command : Command)
-    (reply : Reply) (new : Held) → Settles old mid.history → LeavesSigner told told' → told.disk_faults ≤ told'.disk_faults
+    (reply : Reply) (new : Held) → Settles old mid.history → told'.signer ≡ told.signer → told.disk.faults ≤ told'.disk.faults
     → GoesBy mid.history caller command told' told'' (outside_of told' clock entropy) (outside_of told'' clock' entropy') reply new
     → Step (state_of old told clock entropy) caller command reply (state_of new told'' clock' entropy')
 step_settled old mid told told' told'' clock clock' entropy entropy' caller command reply new settles same later goes = record {

@@ -4,11 +4,11 @@ use Rattle.gate_base.specs.declared.moment.Moment.{Moment}
 use Rattle.plant.specs.Plant.{PlantTold}
 use Rattle.plant.specs.Clock.{ClockTold}
 use Rattle.plant.specs.Entropy.{EntropyTold}
-use Rattle.journal_core.specs.declared.fault.MountFault.{MountFault}
-use Rattle.journal_core.specs.declared.fault.MountFault.TheVariants as mounts
+use Rattle.plain_journal.specs.declared.fault.MountFault.{MountFault}
+use Rattle.plain_journal.specs.declared.fault.MountFault.TheVariants as mounts
 use Rattle.gate_engine.specs.declared.fault.StartFault.{StartFault}
 use Rattle.gate_engine.specs.declared.fault.StartFault.TheVariants as starts
-use Rattle.journal_core.specs.Journal.{head, IsJournal, BreaksAt, StandsFor, JournalState}
+use Rattle.plain_journal.specs.Journal.{head, IsJournal, BreaksAt, StandsFor, JournalState}
 use Rattle.gate_entries.specs.declared.entry.Entry.{Entry}
 use Rattle.gate_entries.specs.Spelling.{entry_bytes}
 use Rattle.gate_entries.specs.Command.{settings_entry}
@@ -19,7 +19,7 @@ use Rattle.gate_entries.specs.declared.caller.Caller.{Caller}
 use Rattle.gate_entries.specs.declared.command.Command.{Command}
 use Rattle.gate_machine.specs.declared.answer.Answer.{Answer}
 use Rattle.gate_machine.specs.Move.{Held, Holds, SignerCall, Given, Does, Acts, Asks, Goes}
-use Rattle.gate_machine.specs.Step.{GivesCall, GivesDraw, Gives, Outside, State, signer_of}
+use Rattle.gate_machine.specs.Step.{GivesCall, GivesDraw, Gives, Outside, State}
 use Rattle.gate_entries.specs.declared.reply.Reply.{Reply}
 use Rattle.gate_entries.specs.declared.reply.Reply.TheVariants as replies
 
@@ -43,21 +43,21 @@ held_as history loose = record { history = history; loose = loose }
 
 -- where nothing is loose, the disk reads as the journal of the history
 abbrev pub StandsForPlant : Held → PlantTold → Type 0
-StandsForPlant held told = held.loose ≡ None → StandsFor (payloads_of held.history) told.bytes
+StandsForPlant held told = held.loose ≡ None → StandsFor (payloads_of held.history) told.disk.bytes
 
 abbrev pub outside_of : PlantTold → ClockTold → EntropyTold → Outside
-outside_of told clock entropy = record { clock = clock; entropy = entropy; signer = signer_of told }
+outside_of told clock entropy = record { clock = clock; entropy = entropy; signer = told.signer }
 
 abbrev pub state_of : Held → PlantTold → ClockTold → EntropyTold → State
-state_of held told clock entropy = record { held = held; disk_faults = told.disk_faults; outside = outside_of told clock entropy }
+state_of held told clock entropy = record { held = held; disk_faults = told.disk.faults; outside = outside_of told clock entropy }
 
 -- ---- what a call keeps of plant and history
 
 -- the disk stands for the history; its count of faults doesn't fall, and rose where the reply is a fault of the disk
 pub record Leaves (told told' : PlantTold) (reply : Reply) (new : Held) : Type 0 where
   pub stands : StandsForPlant new told'
-  pub later : told.disk_faults ≤ told'.disk_faults
-  pub cause : reply ≡ replies.DiskFault → Rose told.disk_faults told'.disk_faults
+  pub later : told.disk.faults ≤ told'.disk.faults
+  pub cause : reply ≡ replies.DiskFault → Rose told.disk.faults told'.disk.faults
 
 -- there was no memory before anything was written or sent
 pub record WantsRoom (history : List Entry) (call : Option SignerCall) (reply : Reply) (new : Held) : Type 0 where
@@ -68,7 +68,7 @@ pub record WantsRoom (history : List Entry) (call : Option SignerCall) (reply : 
 -- an answer is carried out, by what the signer gave
 pub record CarriesOut (answer : Answer) (history : List Entry) (told told' : PlantTold) (reply : Reply) (new : Held) : Type 0 where
   pub call : Option SignerCall
-  pub gives : GivesCall (signer_of told) (signer_of told') call
+  pub gives : GivesCall told.signer told'.signer call
   pub does : WantsRoom history call reply new ⊎ Does answer history call reply new
   pub leaves : Leaves told told' reply new
 
@@ -77,7 +77,7 @@ pub record ActsBy (history : List Entry) (caller : Caller) (command : Command) (
   pub draw : Option (Option Sixteen)
   pub call : Option SignerCall
   pub draws : GivesDraw entropy entropy' draw
-  pub gives : GivesCall (signer_of told) (signer_of told') call
+  pub gives : GivesCall told.signer told'.signer call
   pub acts : Acts history caller command reading draw call reply new
   pub leaves : Leaves told told' reply new
 

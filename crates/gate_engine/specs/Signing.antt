@@ -10,7 +10,7 @@ use Rattle.gate_machine.specs.History.{IsSignature, journal_size, Follows}
 use Rattle.gate_machine.specs.Sends.{order_in, body_in, serial_in, certificate_bytes}
 use Rattle.plant.specs.Plant.{PlantTold}
 use Rattle.gate_machine.specs.Move.{Held, Holds, Waits, SignerCall}
-use Rattle.gate_machine.specs.Step.{GivesCall, signer_of}
+use Rattle.gate_machine.specs.Step.{GivesCall}
 use Rattle.gate_engine.specs.declared.sending.Signing.{Signing}
 
 -- the entry of a signature
@@ -64,5 +64,5 @@ pub record SignedAs (signing : Signing) (history : List Entry) (call : Option Si
 -- the signer was called, and gave a signature or none
 pub record SignsAs (signing : Signing) (history : List Entry) (told told' : PlantTold) (reply : Reply) (new : Held) : Type 0 where
   pub call : Option SignerCall
-  pub gives : GivesCall (signer_of told) (signer_of told') call
+  pub gives : GivesCall told.signer told'.signer call
   pub signs : UnsignedAs signing history call reply new ⊎ SignedAs signing history call reply new

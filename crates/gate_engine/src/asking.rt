@@ -2,13 +2,12 @@
 ghost use Rattle.std.specs.Prelude.{◌≡◌, ◌≢◌, ℕ, ◌≤◌, ◌↔◌, ◌⊎◌, ◌++◌, None, OnOk, OnErr, Some, IfOk, IfErr, IsErrOf, IsTrue, IsFalse, option_to_list};
 ghost use Rattle.std.specs.Option.{ForSome};
 ghost use Rattle.plant.specs.Causes.{Rose};
-ghost use Rattle.plant.specs.Plant.{LeavesSigner};
 ghost use Rattle.gate_entries.specs.Command.{IsCommand, IsCaller};
 ghost use Rattle.gate_machine.specs.History.{Follows, Legal};
 ghost use Rattle.gate_base.specs.declared.sixteen.Sixteen.{Sixteen as SixteenValue};
 ghost use Rattle.gate_machine.specs.Answer.{Answers, IsReady, MayBe};
 ghost use Rattle.gate_machine.specs.Move.{Settles, EndsRemount};
-ghost use Rattle.gate_machine.specs.Step.{Step, IsRecorded, signer_of};
+ghost use Rattle.gate_machine.specs.Step.{Step, IsRecorded};
 ghost use Rattle.gate_machine.specs.Sends.{HasOneBodyEach};
 ghost use Rattle.gate_machine.specs.Serials.{HasOneOrderEach};
 ghost use Rattle.gate_engine.specs.Engine.{StandsForPlant, CarriesOut, ActsBy, AsksBy, GoesBy, IsForeign, IsOther, outside_of, state_of};
@@ -43,10 +42,10 @@ impl Engine {
         ensures step { Step (state_of self.old (P.told plant.old) (C.told clock.old) (E.told entropy.old)) caller.now command.now result
             (state_of self.new (P.told plant.new) (C.told clock.new) (E.told entropy.new)) }
         // What the disk holds is told as foreign only where it is, and then nothing is taken up.
-        ensures foreign { (at : ℕ) → result ≡ Reply.JournalBad at → ForSome (P.told plant.old).bytes (IsForeign self.old at) }
+        ensures foreign { (at : ℕ) → result ≡ Reply.JournalBad at → ForSome (P.told plant.old).disk.bytes (IsForeign self.old at) }
         ensures stands { StandsForPlant self.new (P.told plant.new) }
         // Each body that the signer was sent has an entry of its own, in order, where it had before.
-        ensures recorded { IsRecorded (signer_of (P.told plant.old)) self.old.history → IsRecorded (signer_of (P.told plant.new)) self.new.history }
+        ensures recorded { IsRecorded (P.told plant.old).signer self.old.history → IsRecorded (P.told plant.new).signer self.new.history }
         ensures legal { Legal self.new.history }
         // All bodies that were sent for an order are the same.
         ensures one_body { HasOneBodyEach self.new.history }
@@ -83,7 +82,7 @@ impl Engine {
         requires command { IsCommand command.now }
         ensures step { Step (state_of self.old (P.told plant.old) (C.told clock.old) (E.told entropy.old)) caller.now command.now result
             (state_of self.new (P.told plant.new) (C.told clock.new) (E.told entropy.new)) }
-        ensures foreign { (at : ℕ) → result ≡ Reply.JournalBad at → ForSome (P.told plant.old).bytes (IsForeign self.old at) }
+        ensures foreign { (at : ℕ) → result ≡ Reply.JournalBad at → ForSome (P.told plant.old).disk.bytes (IsForeign self.old at) }
         ensures stands { StandsForPlant self.new (P.told plant.new) }
     {
         what_a_move_keeps();
@@ -101,11 +100,11 @@ impl Engine {
         ensures some { OnErr result (self.old.loose ≢ None) }
         ensures kept { OnErr result (self.new ≡ self.old) }
         ensures ends { IfErr result EndsRemount }
-        ensures foreign { IfErr result (λ reply. (at : ℕ) → reply ≡ Reply.JournalBad at → ForSome (P.told plant.old).bytes (IsForeign self.old at)) }
-        ensures disk { IsErrOf result Reply.DiskFault → Rose (P.told plant.old).disk_faults (P.told plant.new).disk_faults }
+        ensures foreign { IfErr result (λ reply. (at : ℕ) → reply ≡ Reply.JournalBad at → ForSome (P.told plant.old).disk.bytes (IsForeign self.old at)) }
+        ensures disk { IsErrOf result Reply.DiskFault → Rose (P.told plant.old).disk.faults (P.told plant.new).disk.faults }
         ensures stands { StandsForPlant self.new (P.told plant.new) }
-        ensures signer { LeavesSigner (P.told plant.old) (P.told plant.new) }
-        ensures later { (P.told plant.old).disk_faults ≤ (P.told plant.new).disk_faults }
+        ensures signer { (P.told plant.new).signer ≡ (P.told plant.old).signer }
+        ensures later { (P.told plant.old).disk.faults ≤ (P.told plant.new).disk.faults }
     {
         if self.is_settled() {
             return Ok(());
@@ -126,11 +125,11 @@ impl Engine {
         ensures settles { OnOk result (Settles self.old self.new.history) }
         ensures kept { OnErr result (self.new ≡ self.old) }
         ensures ends { IfErr result EndsRemount }
-        ensures foreign { IfErr result (λ reply. (at : ℕ) → reply ≡ Reply.JournalBad at → ForSome (P.told plant.old).bytes (IsForeign self.old at)) }
-        ensures disk { IsErrOf result Reply.DiskFault → Rose (P.told plant.old).disk_faults (P.told plant.new).disk_faults }
+        ensures foreign { IfErr result (λ reply. (at : ℕ) → reply ≡ Reply.JournalBad at → ForSome (P.told plant.old).disk.bytes (IsForeign self.old at)) }
+        ensures disk { IsErrOf result Reply.DiskFault → Rose (P.told plant.old).disk.faults (P.told plant.new).disk.faults }
         ensures stands { StandsForPlant self.new (P.told plant.new) }
-        ensures signer { LeavesSigner (P.told plant.old) (P.told plant.new) }
-        ensures later { (P.told plant.old).disk_faults ≤ (P.told plant.new).disk_faults }
+        ensures signer { (P.told plant.new).signer ≡ (P.told plant.old).signer }
+        ensures later { (P.told plant.old).disk.faults ≤ (P.told plant.new).disk.faults }
     {
         match open(self.alloc, plant) {
             Ok(found) => {

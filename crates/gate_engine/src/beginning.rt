@@ -2,8 +2,7 @@
 ghost use Rattle.std.specs.Prelude.{◌≡◌, ◌≢◌, ℕ, ◌≤◌, [], length, IfOk, IsErrOf, OnOk};
 ghost use Rattle.plant.specs.Causes.{Rose};
 ghost use Rattle.std.specs.Option.{ForSome, option_map};
-ghost use Rattle.plant.specs.Plant.{LeavesSigner};
-ghost use Rattle.journal_core.specs.Journal.{IsPayload, StandsFor, journal_of};
+ghost use Rattle.plain_journal.specs.Journal.{IsPayload, StandsFor, journal_of};
 ghost use Rattle.gate_entries.specs.Spelling.{entry_bytes, IsEntry};
 ghost use Rattle.gate_entries.specs.Command.{settings_entry};
 ghost use Rattle.gate_machine.specs.History.{Legal};
@@ -12,29 +11,29 @@ ghost use Rattle.gate_engine.specs.Engine.{payloads_of, first_history};
 
 use gate_base::{Moment, NoMemory};
 use gate_entries::{Entry, write_entry};
-use journal_core::BeginFault;
+use plain_journal::BeginFault;
 use plant::Plant;
 use std::alloc::Global;
 
 /// Begins a journal on an empty disk, with the settings that hold from this moment on. They are empty so far.
 pub fn begin<P: Plant>(alloc: Global, plant: &mut P, moment: Moment) -> Result<(), BeginFault>
-    ensures ok { OnOk result ((P.told plant.new).bytes ≡ option_map (λ _. journal_of (payloads_of (first_history moment))) (P.told plant.old).bytes) }
-    ensures stands { OnOk result (StandsFor (payloads_of (first_history moment)) (P.told plant.new).bytes) }
+    ensures ok { OnOk result ((P.told plant.new).disk.bytes ≡ option_map (λ _. journal_of (payloads_of (first_history moment))) (P.told plant.old).disk.bytes) }
+    ensures stands { OnOk result (StandsFor (payloads_of (first_history moment)) (P.told plant.new).disk.bytes) }
     ensures legal { OnOk result (IsInRange moment.0 → Legal (first_history moment)) }
-    ensures empty { OnOk result (ForSome (P.told plant.old).bytes (λ bytes. bytes ≡ [])) }
-    ensures not_empty { (count : ℕ) → IsErrOf result (BeginFault.NotEmpty count) → ForSome (P.told plant.old).bytes (λ bytes. length bytes ≡ count) }
+    ensures empty { OnOk result (ForSome (P.told plant.old).disk.bytes (λ bytes. bytes ≡ [])) }
+    ensures not_empty { (count : ℕ) → IsErrOf result (BeginFault.NotEmpty count) → ForSome (P.told plant.old).disk.bytes (λ bytes. length bytes ≡ count) }
     ensures some { (count : ℕ) → IsErrOf result (BeginFault.NotEmpty count) → 1 ≤ count }
-    ensures kept { ForSome (P.told plant.old).bytes (λ bytes. bytes ≢ [] → (P.told plant.new).bytes ≡ (P.told plant.old).bytes) }
-    ensures memory { IsErrOf result BeginFault.NoMemory → (P.told plant.new).bytes ≡ (P.told plant.old).bytes }
-    ensures disk { IsErrOf result BeginFault.Disk → Rose (P.told plant.old).disk_faults (P.told plant.new).disk_faults }
-    ensures later { (P.told plant.old).disk_faults ≤ (P.told plant.new).disk_faults }
-    ensures signer { LeavesSigner (P.told plant.old) (P.told plant.new) }
+    ensures kept { ForSome (P.told plant.old).disk.bytes (λ bytes. bytes ≢ [] → (P.told plant.new).disk.bytes ≡ (P.told plant.old).disk.bytes) }
+    ensures memory { IsErrOf result BeginFault.NoMemory → (P.told plant.new).disk.bytes ≡ (P.told plant.old).disk.bytes }
+    ensures disk { IsErrOf result BeginFault.Disk → Rose (P.told plant.old).disk.faults (P.told plant.new).disk.faults }
+    ensures later { (P.told plant.old).disk.faults ≤ (P.told plant.new).disk.faults }
+    ensures signer { (P.told plant.new).signer ≡ (P.told plant.old).signer }
 {
     let payload = match settings_payload(alloc, moment) {
         Ok(payload) => payload,
         Err(NoMemory) => return Err(BeginFault::NoMemory),
     };
-    journal_core::begin(alloc, plant, &payload)
+    plain_journal::begin(alloc, plant, &payload)
 }
 
 /// What the first record holds.

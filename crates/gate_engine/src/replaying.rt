@@ -1,6 +1,6 @@
 //! How payloads become a history.
 ghost use Rattle.std.specs.Prelude.{◌≡◌, ◌≢◌, ◌≤◌, ◌+◌, ℕ, [], length, sum_by, IfOk, IsErrOf};
-ghost use Rattle.journal_core.specs.Journal.{journal_of};
+ghost use Rattle.plain_journal.specs.Journal.{journal_of};
 ghost use Rattle.gate_entries.specs.declared.entry.Entry.{Entry as EntryValue};
 ghost use Rattle.gate_entries.specs.Spelling.{entry_bytes};
 ghost use Rattle.gate_machine.specs.History.{Legal, EachFollows, Follows};
@@ -10,7 +10,7 @@ use crate::fault::ReplayFault;
 use gate_base::{Bytes, Payloads};
 use gate_entries::{Entry, EntryRead, read_entry};
 use gate_machine::{follows, one_entry_more};
-use journal_core::one_record_more;
+use plain_journal::one_record_more;
 use std::alloc::Global;
 
 /// Where the first record lies.

@@ -1,7 +1,6 @@
 //! How a body is sent: its entry is durable before the signer is called, and the signature's entry before the certificate is told.
 ghost use Rattle.std.specs.Prelude.{◌≡◌, ◌+◌, ◌≤◌, ◌<◌, ◌⊎◌, ℕ, List, None, [], ◌∷◌, ◌++◌, length, vec_len, vec_capacity, IfOk, OnErr, OnOk};
 ghost use Rattle.plant.specs.Causes.{Rose};
-ghost use Rattle.plant.specs.Plant.{LeavesSigner};
 ghost use Rattle.gate_entries.specs.Spelling.{entry_bytes, IsEntry};
 ghost use Rattle.gate_machine.specs.History.{journal_size, IsSignature, Follows};
 ghost use Rattle.gate_machine.specs.Sends.{is_send_for, order_in, body_in, certificate_bytes, IsGoodBody};
@@ -18,7 +17,7 @@ use gate_machine::{
     Answer, a_body_has_a_serial_number, a_signature_follows, body_in, one_entry_more, serial_in,
     to_sixteen,
 };
-use journal_core::Journal;
+use plain_journal::Journal;
 use plant::{Plant, SIGNATURE_ROOM, SignerFault};
 use std::alloc::Global;
 use tbs_build::certificate;
@@ -119,9 +118,9 @@ fn keep_signature<P: Plant>(
     ensures follows { Follows history.old.items (signed_as signing signature.now) }
     ensures sound { Sound journal.new history.new.items loose.new }
     ensures stands { StandsForPlant (held_as history.new.items loose.new) (P.told plant.new) }
-    ensures disk { result ≡ Reply.DiskFault → Rose (P.told plant.old).disk_faults (P.told plant.new).disk_faults }
-    ensures later { (P.told plant.old).disk_faults ≤ (P.told plant.new).disk_faults }
-    ensures signer { LeavesSigner (P.told plant.old) (P.told plant.new) }
+    ensures disk { result ≡ Reply.DiskFault → Rose (P.told plant.old).disk.faults (P.told plant.new).disk.faults }
+    ensures later { (P.told plant.old).disk.faults ≤ (P.told plant.new).disk.faults }
+    ensures signer { (P.told plant.new).signer ≡ (P.told plant.old).signer }
 {
     let Signing {
         order,

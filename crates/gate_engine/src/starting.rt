@@ -2,8 +2,7 @@
 ghost use Rattle.std.specs.Prelude.{◌≡◌, ◌≤◌, ℕ, List, [], length, None, false, IfOk, IfErr, IsErrOf};
 ghost use Rattle.std.specs.Option.{ForSome};
 ghost use Rattle.plant.specs.Causes.{Rose};
-ghost use Rattle.plant.specs.Plant.{LeavesSigner};
-ghost use Rattle.journal_core.specs.Journal.{journal_of, IsJournal};
+ghost use Rattle.plain_journal.specs.Journal.{journal_of, IsJournal};
 ghost use Rattle.gate_machine.specs.History.{Legal};
 ghost use Rattle.gate_engine.specs.Engine.{payloads_of, StandsForPlant, RefusesStart, IsStartFault};
 
@@ -12,7 +11,7 @@ use crate::fault::{ReplayFault, StartFault};
 use crate::replaying::replay;
 use gate_base::Payloads;
 use gate_entries::Entry;
-use journal_core::{Journal, MountFault, one_reading, one_record_more};
+use plain_journal::{Journal, MountFault, one_reading, one_record_more};
 use plant::{Clock, MAX_BYTES, Plant};
 use std::alloc::Global;
 
@@ -28,11 +27,11 @@ impl Engine {
         ensures settled { IfOk result (λ engine. engine.loose ≡ None) }
         ensures legal { IfOk result (λ engine. Legal engine.history) }
         ensures stands { IfOk result (λ engine. StandsForPlant engine (P.told plant.new)) }
-        ensures refused { IfErr result (λ fault. ForSome (P.told plant.old).bytes (λ bytes. RefusesStart fault bytes)) }
-        ensures disk { IsErrOf result StartFault.Disk → Rose (P.told plant.old).disk_faults (P.told plant.new).disk_faults }
-        ensures later { (P.told plant.old).disk_faults ≤ (P.told plant.new).disk_faults }
-        ensures bytes { (P.told plant.new).bytes ≡ (P.told plant.old).bytes }
-        ensures signer { LeavesSigner (P.told plant.old) (P.told plant.new) }
+        ensures refused { IfErr result (λ fault. ForSome (P.told plant.old).disk.bytes (λ bytes. RefusesStart fault bytes)) }
+        ensures disk { IsErrOf result StartFault.Disk → Rose (P.told plant.old).disk.faults (P.told plant.new).disk.faults }
+        ensures later { (P.told plant.old).disk.faults ≤ (P.told plant.new).disk.faults }
+        ensures bytes { (P.told plant.new).disk.bytes ≡ (P.told plant.old).disk.bytes }
+        ensures signer { (P.told plant.new).signer ≡ (P.told plant.old).signer }
         ensures clock { C.told _clock.new ≡ C.told _clock.old }
     {
         open(alloc, plant)
@@ -44,11 +43,11 @@ pub fn open<P: Plant>(alloc: Global, plant: &mut P) -> Result<Engine, StartFault
     ensures settled { IfOk result (λ engine. engine.loose ≡ None) }
     ensures legal { IfOk result (λ engine. Legal engine.history) }
     ensures stands { IfOk result (λ engine. StandsForPlant engine (P.told plant.new)) }
-    ensures refused { IfErr result (λ fault. ForSome (P.told plant.old).bytes (λ bytes. RefusesStart fault bytes)) }
-    ensures disk { IsErrOf result StartFault.Disk → Rose (P.told plant.old).disk_faults (P.told plant.new).disk_faults }
-    ensures later { (P.told plant.old).disk_faults ≤ (P.told plant.new).disk_faults }
-    ensures bytes { (P.told plant.new).bytes ≡ (P.told plant.old).bytes }
-    ensures signer { LeavesSigner (P.told plant.old) (P.told plant.new) }
+    ensures refused { IfErr result (λ fault. ForSome (P.told plant.old).disk.bytes (λ bytes. RefusesStart fault bytes)) }
+    ensures disk { IsErrOf result StartFault.Disk → Rose (P.told plant.old).disk.faults (P.told plant.new).disk.faults }
+    ensures later { (P.told plant.old).disk.faults ≤ (P.told plant.new).disk.faults }
+    ensures bytes { (P.told plant.new).disk.bytes ≡ (P.told plant.old).disk.bytes }
+    ensures signer { (P.told plant.new).signer ≡ (P.told plant.old).signer }
 {
     match Journal::mount(alloc, plant) {
         Ok((journal, payloads)) => replayed(alloc, journal, &payloads),

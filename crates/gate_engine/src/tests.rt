@@ -8,7 +8,7 @@ use crate::listed::{Row, Rows, payload, put, put_counted, records};
 use crate::requests::request;
 use gate_base::{Bytes, Moment, Role, Sequence, Target, Targets};
 use gate_entries::{Caller, Command, Reply, Why, Whys, read_name_text};
-use journal_core::{Journal, MAX_PAYLOAD};
+use plain_journal::{Journal, MAX_PAYLOAD};
 use plant::{Fail, ListClock, ListEntropy, MemoryPlant};
 use std::alloc::Global;
 use std::marker::Model;
@@ -519,7 +519,7 @@ const ORDER: Row = Row {
 
 fn begin_with(rt: &impl Abort, alloc: Global, plant: &mut MemoryPlant, payload: &[u8]) {
     assert!(rt; 1 <= payload.len() && payload.len() <= MAX_PAYLOAD);
-    journal_core::begin(alloc, plant, payload).expect(rt, "a journal");
+    plain_journal::begin(alloc, plant, payload).expect(rt, "a journal");
 }
 
 fn append(rt: &impl Abort, alloc: Global, plant: &mut MemoryPlant, payload: &[u8]) {

@@ -1,7 +1,6 @@
 //! How an entry is committed.
 ghost use Rattle.std.specs.Prelude.{◌≡◌, ◌+◌, ◌≤◌, ◌<◌, ◌⊎◌, None, [], ◌∷◌, ◌++◌, length, vec_len, vec_capacity, IfOk, OnErr, IsTrue, IsFalse};
 ghost use Rattle.plant.specs.Causes.{Rose};
-ghost use Rattle.plant.specs.Plant.{LeavesSigner};
 ghost use Rattle.gate_entries.specs.Spelling.{entry_bytes, IsEntry};
 ghost use Rattle.gate_machine.specs.History.{journal_size, record_size, Follows};
 ghost use Rattle.gate_machine.specs.Answer.{IsReadyToWrite};
@@ -12,7 +11,7 @@ use crate::engine::Engine;
 use gate_base::NoMemory;
 use gate_entries::{Entry, Reply, write_entry};
 use gate_machine::{Answer, one_entry_more, written_reply};
-use journal_core::{AppendDisk, Journal, one_record_more};
+use plain_journal::{AppendDisk, Journal, one_record_more};
 use plant::Plant;
 use std::alloc::Global;
 
@@ -51,9 +50,9 @@ pub fn commit<P: Plant>(
     ensures lost { IsFalse result → Waits history.old.items entry (held_as history.new.items loose.new) }
     ensures sound { Sound journal.new history.new.items loose.new }
     ensures stands { StandsForPlant (held_as history.new.items loose.new) (P.told plant.new) }
-    ensures disk { IsFalse result → Rose (P.told plant.old).disk_faults (P.told plant.new).disk_faults }
-    ensures later { (P.told plant.old).disk_faults ≤ (P.told plant.new).disk_faults }
-    ensures signer { LeavesSigner (P.told plant.old) (P.told plant.new) }
+    ensures disk { IsFalse result → Rose (P.told plant.old).disk.faults (P.told plant.new).disk.faults }
+    ensures later { (P.told plant.old).disk.faults ≤ (P.told plant.new).disk.faults }
+    ensures signer { (P.told plant.new).signer ≡ (P.told plant.old).signer }
     ensures spare { journal.new.spare ≡ journal.old.spare }
     ensures length { IsTrue result → vec_len history.new ≡ vec_len history.old + 1 }
     ensures capacity { vec_capacity history.old ≤ vec_capacity history.new }

@@ -3,6 +3,7 @@ use Rattle.std.proofs.Common.{◌≡◌, ℕ, List, [], ◌∷◌, ◌++◌, Opt
 use Rattle.std.specs.Prelude.{IfSome, option_to_list}
 use Rattle.std.specs.Option.{option_map}
 use Rattle.std.proofs.lemmas.Grind.{flat_map-append}
+use Rattle.plant.specs.Plant.{SignerTold}
 use Rattle.gate_entries.specs.declared.caller.Caller.{Caller}
 use Rattle.gate_entries.specs.declared.command.Command.{Command}
 use Rattle.gate_entries.specs.declared.entry.Entry.{Entry}
@@ -11,7 +12,7 @@ use Rattle.gate_machine.specs.declared.answer.Answer.{Answer}
 use Rattle.gate_machine.specs.declared.answer.Answer.TheVariants.{Say, Write, Send, NeedDraw}
 use Rattle.gate_machine.specs.Sends.{body_in, sent_by, Within}
 use Rattle.gate_machine.specs.Move.{Held, SignerCall, Given, Settles, Wrote, Sent, Does, Acts, Asks, Goes, Moves}
-use Rattle.gate_machine.specs.Step.{SignerTold, SignerFails, Signs, GivesCall, State, Step, bodies_of, IsRecorded}
+use Rattle.gate_machine.specs.Step.{SignerFails, Signs, GivesCall, State, Step, bodies_of, IsRecorded}
 use Rattle.gate_base.specs.declared.sixteen.Sixteen.{Sixteen}
 use Rattle.gate_machine.proofs.Faults.{MayFollow, may_follow}
 

@@ -2,13 +2,14 @@
 use Rattle.std.proofs.Common.{◌≡◌, ℕ, ◌+◌, ◌≤◌, List, [], ◌∷◌, ◌++◌, Option, Some, None, refl, sym, ap, subst, ◌∙◌, arith}
 use Rattle.std.proofs.lemmas.List.Sums.{sum_by-cons}
 use Rattle.gate_base.specs.declared.sixteen.Sixteen.{Sixteen}
+use Rattle.plant.specs.Plant.{SignerTold}
 use Rattle.plant.specs.Causes.{Rose, RoseBy}
 use Rattle.plant.specs.Clock.{ClockTold, Reads}
 use Rattle.plant.specs.Entropy.{EntropyTold, Draws}
 use Rattle.gate_entries.specs.declared.reply.Reply.{Reply}
 use Rattle.gate_entries.specs.declared.reply.Reply.TheVariants.{ClockFault, EntropyFault, DiskFault, SignerFault}
 use Rattle.gate_machine.specs.Move.{IsSound, Extends, SignerCall, Given, HasFaults}
-use Rattle.gate_machine.specs.Step.{SignerTold, SignerFails, State, GivesSignature, GivesCall, GivesReading, GivesDraw, Item, Handles, Steps, tells_disk, tells_clock, tells_entropy, tells_signer, told_by, count_told, Counted, IsRecorded}
+use Rattle.gate_machine.specs.Step.{SignerFails, State, GivesSignature, GivesCall, GivesReading, GivesDraw, Item, Handles, Steps, tells_disk, tells_clock, tells_entropy, tells_signer, told_by, count_told, Counted, IsRecorded}
 use Rattle.gate_machine.specs.Step.Item.{Exchange, Refusal}
 use Rattle.gate_machine.proofs.Faults.{move_faults}
 use Rattle.gate_machine.proofs.Moves.{extends_same, extends_more, move_extends, move_sound, move_settled}

@@ -4,7 +4,7 @@ use Rattle.std.specs.Option.{option_map}
 use Rattle.std.specs.List.{flat_map}
 use Rattle.gate_base.specs.declared.sixteen.Sixteen.{Sixteen}
 use Rattle.plant.specs.Causes.{Rose, RoseBy}
-use Rattle.plant.specs.Plant.{PlantTold}
+use Rattle.plant.specs.Plant.{SignerTold}
 use Rattle.plant.specs.Clock.{ClockTold, Reads}
 use Rattle.plant.specs.Entropy.{EntropyTold, Draws}
 use Rattle.gate_entries.specs.declared.caller.Caller.{Caller}
@@ -14,15 +14,6 @@ use Rattle.gate_entries.specs.declared.reply.Reply.{Reply}
 use Rattle.gate_entries.specs.declared.reply.Reply.TheVariants.{ClockFault, EntropyFault, DiskFault, SignerFault}
 use Rattle.gate_machine.specs.Sends.{sent_by, Within}
 use Rattle.gate_machine.specs.Move.{Held, SignerCall, Given, Moves}
-
--- the observable state of a signer: the bodies that it was sent, its answers (each a body and a signature), its count of faults
-pub record SignerTold : Type 0 where
-  pub sent : Option (List (List ℕ))
-  pub answers : Option (List (List ℕ × List ℕ))
-  pub faults : ℕ
-
-abbrev pub signer_of : PlantTold → SignerTold
-signer_of told = record { sent = told.sent; answers = told.answers; faults = told.signer_faults }
 
 -- the clock, the random draws, and the signer
 pub record Outside : Type 0 where

@@ -2,16 +2,16 @@
 use Rattle.std.proofs.Common.{◌≡◌, ℕ, ◌≤◌, inl, inr, List, [], ◌∷◌, ◌++◌, length, None, refl, sym, subst, append-nil, arith}
 use Rattle.std.specs.Option.{ForSome}
 use Rattle.plant.specs.Causes.{Rose}
-use Rattle.plant.specs.Plant.{PlantTold, LeavesSigner}
+use Rattle.plant.specs.Plant.{SignerTold, PlantTold}
 use Rattle.plant.specs.Clock.{ClockTold}
 use Rattle.plant.specs.Entropy.{EntropyTold}
 use Rattle.plant.specs.Stream.{SourceTold, SinkTold}
-use Rattle.journal_core.specs.Journal.{StandsFor}
+use Rattle.plain_journal.specs.Journal.{StandsFor}
 use Rattle.gate_machine.specs.History.{Legal}
 use Rattle.gate_machine.specs.Sends.{HasOneBodyEach}
 use Rattle.gate_machine.specs.Serials.{HasOneOrderEach}
 use Rattle.gate_machine.specs.Move.{Held, Extends}
-use Rattle.gate_machine.specs.Step.{SignerTold, State, Item, Handles, Steps, Counted, IsRecorded, signer_of}
+use Rattle.gate_machine.specs.Step.{State, Item, Handles, Steps, Counted, IsRecorded}
 use Rattle.gate_engine.specs.declared.fault.StartFault.{StartFault}
 use Rattle.gate_engine.specs.declared.fault.StartFault.TheVariants as starts
 use Rattle.gate_engine.specs.Engine.{payloads_of, StandsForPlant, RefusesStart, state_of}
@@ -21,8 +21,8 @@ use Rattle.gate_server.specs.Session.{Talk, talk_of, begun, Rests, BreaksOff, En
 use Rattle.gate_server.specs.Run.{outside_of, IsStartStatus, HoldsSession}
 
 pub refused_of : (plant plant' : PlantTold) (clock : ClockTold) (entropy : EntropyTold) (source : SourceTold) (sink : SinkTold) (fault : StartFault) (status : Status)
-    → IsStartStatus fault status → ForSome plant.bytes (λ bytes. RefusesStart fault bytes)
-    → (fault ≡ starts.Disk → Rose plant.disk_faults plant'.disk_faults) → plant'.bytes ≡ plant.bytes → LeavesSigner plant plant'
+    → IsStartStatus fault status → ForSome plant.disk.bytes (λ bytes. RefusesStart fault bytes)
+    → (fault ≡ starts.Disk → Rose plant.disk.faults plant'.disk.faults) → plant'.disk.bytes ≡ plant.disk.bytes → plant'.signer ≡ plant.signer
     → HoldsSession (outside_of plant clock entropy source sink) (outside_of plant' clock entropy source sink) status
 refused_of plant plant' clock entropy source sink fault status told refused cause bytes signer =
     inl (record {
@@ -80,10 +80,6 @@ module _ (steps_more : (old mid new : State) (items : List Item) (item : Item) �
 rose_behind : (a b c : ℕ) → a ≤ b → Rose b c → Rose a c
 rose_behind a b c le rose = omega (arith, le, rose)
 
--- the bodies that were sent before are those that were sent when the journal was mounted
-signer_mounted : (plant mounted : PlantTold) → LeavesSigner plant mounted → signer_of mounted ≡ signer_of plant
-signer_mounted plant mounted same = rw (same.sent, same.answers, same.signer_faults) refl
-
 module _ (steps_more : (old mid new : State) (items : List Item) (item : Item) → Steps old items mid → Handles mid item new → Steps old (items ++ item ∷ []) new)
     (steps_extend : (old : State) (items : List Item) (new : State) → Steps old items new → Extends old.held.history new.held.history)
     (steps_recorded : (old : State) (items : List Item) (new : State) → Steps old items new → IsRecorded old.outside.signer old.held.history
@@ -92,8 +88,8 @@ module _ (steps_more : (old mid new : State) (items : List Item) (item : Item) �
     (steps_settled : (old : State) (items : List Item) (new : State) → Steps old items new → old.held.loose ≡ None → (Rose old.disk_faults new.disk_faults → ⊥)
     → new.held.loose ≡ None) where
   pub session_of : (plant mounted plant' : PlantTold) (clock clock' : ClockTold) (entropy entropy' : EntropyTold) (source source' : SourceTold) (sink sink' : SinkTold)
-      (status : Status) (before after : Held) → before.loose ≡ None → Legal before.history → StandsForPlant before mounted → mounted.bytes ≡ plant.bytes
-      → plant.disk_faults ≤ mounted.disk_faults → LeavesSigner plant mounted
+      (status : Status) (before after : Held) → before.loose ≡ None → Legal before.history → StandsForPlant before mounted → mounted.disk.bytes ≡ plant.disk.bytes
+      → plant.disk.faults ≤ mounted.disk.faults → mounted.signer ≡ plant.signer
       → Ended status (talk_of before mounted clock entropy begun source sink) after plant' clock' entropy' source' sink' → StandsForPlant after plant'
       → Legal after.history → HasOneBodyEach after.history → HasOneOrderEach after.history
       → HoldsSession (outside_of plant clock entropy source sink) (outside_of plant' clock' entropy' source' sink') status
@@ -119,7 +115,7 @@ module _ (steps_more : (old mid new : State) (items : List Item) (item : Item) �
         extends = steps_extend first items last all.steps;
         counted = steps_counted first items last all.steps;
         recorded = λ was. steps_recorded first items last all.steps
-            (subst (λ (s : SignerTold). IsRecorded s before.history) (sym (signer_mounted plant mounted signer)) was);
+            (subst (λ (s : SignerTold). IsRecorded s before.history) (sym signer) was);
         one_body = one_body;
         one_order = one_order;
         stands = stands;

@@ -3,17 +3,17 @@ use Rattle.std.specs.Prelude.{◌≡◌, ◌≢◌, ℕ, ◌≤◌, ◌⊎◌, L
 use Rattle.std.specs.Option.{ForSome, option_map}
 use Rattle.std.specs.Io.KnownBytes.{IsAtEnd}
 use Rattle.plant.specs.Causes.{Rose}
-use Rattle.plant.specs.Plant.{PlantTold, LeavesSigner}
+use Rattle.plant.specs.Plant.{PlantTold}
 use Rattle.plant.specs.Clock.{ClockTold, Reads}
 use Rattle.plant.specs.Entropy.{EntropyTold}
 use Rattle.plant.specs.Stream.{SourceTold, SinkTold}
-use Rattle.journal_core.specs.Journal.{StandsFor, journal_of}
+use Rattle.plain_journal.specs.Journal.{StandsFor, journal_of}
 use Rattle.gate_machine.specs.History.{Legal}
 use Rattle.gate_machine.specs.Answer.{IsInRange, IsOutOfRange}
 use Rattle.gate_machine.specs.Sends.{HasOneBodyEach}
 use Rattle.gate_machine.specs.Serials.{HasOneOrderEach}
 use Rattle.gate_machine.specs.Move.{Held, Extends}
-use Rattle.gate_machine.specs.Step.{Item, Steps, Counted, IsRecorded, signer_of}
+use Rattle.gate_machine.specs.Step.{Item, Steps, Counted, IsRecorded}
 use Rattle.gate_engine.specs.declared.fault.StartFault.{StartFault}
 use Rattle.gate_engine.specs.declared.fault.StartFault.TheVariants as starts
 use Rattle.gate_engine.specs.Engine.{payloads_of, first_history, StandsForPlant, RefusesStart, state_of}
@@ -56,10 +56,10 @@ IsStartStatus starts.NoMemory status = status ≡ statuses.NoMemory
 pub record Refused (old new : Outside) (status : Status) : Type 0 where
   pub fault : StartFault
   pub told : IsStartStatus fault status
-  pub refused : ForSome old.plant.bytes (λ bytes. RefusesStart fault bytes)
-  pub cause : fault ≡ starts.Disk → Rose old.plant.disk_faults new.plant.disk_faults
-  pub bytes : new.plant.bytes ≡ old.plant.bytes
-  pub signer : LeavesSigner old.plant new.plant
+  pub refused : ForSome old.plant.disk.bytes (λ bytes. RefusesStart fault bytes)
+  pub cause : fault ≡ starts.Disk → Rose old.plant.disk.faults new.plant.disk.faults
+  pub bytes : new.plant.disk.bytes ≡ old.plant.disk.bytes
+  pub signer : new.plant.signer ≡ old.plant.signer
   pub clock : new.clock ≡ old.clock
   pub entropy : new.entropy ≡ old.entropy
   pub source : new.source ≡ old.source
@@ -71,10 +71,10 @@ pub record Session (old new : Outside) (status : Status) : Type 0 where
   pub before : Held
   pub settled : before.loose ≡ None
   pub legal : Legal before.history
-  pub stood : StandsFor (payloads_of before.history) old.plant.bytes
+  pub stood : StandsFor (payloads_of before.history) old.plant.disk.bytes
   pub mounted : PlantTold
-  pub later : old.plant.disk_faults ≤ mounted.disk_faults
-  pub signer : LeavesSigner old.plant mounted
+  pub later : old.plant.disk.faults ≤ mounted.disk.faults
+  pub signer : mounted.signer ≡ old.plant.signer
   pub after : Held
   pub ended : Ended status (talk_of before mounted old.clock old.entropy begun old.source old.sink) after new.plant new.clock new.entropy new.source new.sink
   -- the last item, where its text was not put whole
@@ -87,13 +87,13 @@ pub record Session (old new : Outside) (status : Status) : Type 0 where
   -- a fault of an object is told at most as many times as its count rose
   pub counted : Counted (state_of before mounted old.clock old.entropy) (ended.talked.items ++ broken) (state_of after new.plant new.clock new.entropy)
   -- each body that the signer was sent has an entry of its own, in order, where it had before
-  pub recorded : IsRecorded (signer_of old.plant) before.history → IsRecorded (signer_of new.plant) after.history
+  pub recorded : IsRecorded old.plant.signer before.history → IsRecorded new.plant.signer after.history
   -- all bodies that were sent for an order are the same
   pub one_body : HasOneBodyEach after.history
   -- two bodies with the same serial number were sent for the same order
   pub one_order : HasOneOrderEach after.history
   pub stands : StandsForPlant after new.plant
-  pub kept : (Rose old.plant.disk_faults new.plant.disk_faults → ⊥) → StandsFor (payloads_of after.history) new.plant.bytes
+  pub kept : (Rose old.plant.disk.faults new.plant.disk.faults → ⊥) → StandsFor (payloads_of after.history) new.plant.disk.bytes
 
 abbrev pub HoldsSession : Outside → Outside → Status → Type 0
 HoldsSession old new status = Refused old new status ⊎ Session old new status
@@ -104,20 +104,20 @@ RunsSession conf conf' old new status =
 
 -- a journal was begun on an empty disk: it holds the settings of this moment
 pub record Began (reading : ℕ) (plant plant' : PlantTold) : Type 0 where
-  pub empty : ForSome plant.bytes (λ bytes. bytes ≡ [])
-  pub bytes : plant'.bytes ≡ option_map (λ _. journal_of (payloads_of (first_history (record { 0 = reading })))) plant.bytes
+  pub empty : ForSome plant.disk.bytes (λ bytes. bytes ≡ [])
+  pub bytes : plant'.disk.bytes ≡ option_map (λ _. journal_of (payloads_of (first_history (record { 0 = reading })))) plant.disk.bytes
   pub legal : Legal (first_history (record { 0 = reading }))
 
 -- the disk isn't empty, and stays as it was
 pub record Occupied (count : ℕ) (plant plant' : PlantTold) : Type 0 where
   pub some : 1 ≤ count
-  pub size : ForSome plant.bytes (λ bytes. (length bytes ≡ count) × (plant'.bytes ≡ plant.bytes))
+  pub size : ForSome plant.disk.bytes (λ bytes. (length bytes ≡ count) × (plant'.disk.bytes ≡ plant.disk.bytes))
 
 abbrev pub Begins : ℕ → PlantTold → PlantTold → Status → Type 0
 Begins reading plant plant' statuses.Ok = Began reading plant plant'
 Begins reading plant plant' (statuses.NotEmpty count) = Occupied count plant plant'
-Begins reading plant plant' statuses.DiskFault = Rose plant.disk_faults plant'.disk_faults
-Begins reading plant plant' statuses.NoMemory = plant'.bytes ≡ plant.bytes
+Begins reading plant plant' statuses.DiskFault = Rose plant.disk.faults plant'.disk.faults
+Begins reading plant plant' statuses.NoMemory = plant'.disk.bytes ≡ plant.disk.bytes
 Begins reading plant plant' statuses.NotBuilt = ⊥
 Begins reading plant plant' (statuses.ReadFault settings) = ⊥
 Begins reading plant plant' statuses.WriteFault = ⊥
@@ -142,7 +142,7 @@ pub record RunsBegin (conf conf' : SourceTold) (old new : Outside) (status : Sta
   pub entropy : new.entropy ≡ old.entropy
   pub source : new.source ≡ old.source
   pub sink : new.sink ≡ old.sink
-  pub signer : LeavesSigner old.plant new.plant
+  pub signer : new.plant.signer ≡ old.plant.signer
   pub does : (RefusesSettings conf conf' status × (new.plant ≡ old.plant) × (new.clock ≡ old.clock))
       ⊎ (IsAtEnd conf.left × BeginsJournal old.plant new.plant old.clock new.clock status)
 

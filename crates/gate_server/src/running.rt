@@ -2,7 +2,6 @@
 ghost use Rattle.std.specs.Prelude.{◌≡◌, ◌≤◌, ◌⊎◌, length, map, string_bytes, IfSome};
 ghost use Rattle.std.specs.Io.KnownBytes.{IsAtEnd};
 ghost use Rattle.plant.specs.Causes.{Rose};
-ghost use Rattle.plant.specs.Plant.{LeavesSigner};
 ghost use Rattle.gate_server.specs.declared.running.Word.{Word as WordValue};
 ghost use Rattle.gate_machine.specs.Answer.{IsInRange};
 ghost use Rattle.gate_server.specs.Run.{IsWord, IsStartStatus, RefusesSettings, outside_of, HoldsSession, RunsSession, BeginsJournal, RunsBegin, Begins, Runs};
@@ -12,7 +11,7 @@ use crate::status::Status;
 use gate_base::Moment;
 use gate_engine::{Engine, StartFault, begin};
 use gate_machine::what_steps_keep;
-use journal_core::BeginFault;
+use plain_journal::BeginFault;
 use plant::{Clock, ClockFault, Entropy, Plant, Sink, Source, TakeFault};
 use std::alloc::Global;
 
@@ -95,7 +94,7 @@ fn run_begin<F: Source, P: Plant, C: Clock>(
 ) -> Status
     ensures does { (RefusesSettings (F.told conf.old) (F.told conf.new) result × (P.told plant.new ≡ P.told plant.old) × (C.told clock.new ≡ C.told clock.old))
         ⊎ (IsAtEnd (F.told conf.old).left × BeginsJournal (P.told plant.old) (P.told plant.new) (C.told clock.old) (C.told clock.new) result) }
-    ensures signer { LeavesSigner (P.told plant.old) (P.told plant.new) }
+    ensures signer { (P.told plant.new).signer ≡ (P.told plant.old).signer }
 {
     match read_settings(conf) {
         Settings::Empty => begin_journal(alloc, plant, clock),
@@ -106,7 +105,7 @@ fn run_begin<F: Source, P: Plant, C: Clock>(
 
 fn begin_journal<P: Plant, C: Clock>(alloc: Global, plant: &mut P, clock: &mut C) -> Status
     ensures begins { BeginsJournal (P.told plant.old) (P.told plant.new) (C.told clock.old) (C.told clock.new) result }
-    ensures signer { LeavesSigner (P.told plant.old) (P.told plant.new) }
+    ensures signer { (P.told plant.new).signer ≡ (P.told plant.old).signer }
 {
     let reading = match clock.now() {
         Ok(reading) => reading,
@@ -121,7 +120,7 @@ fn begin_journal<P: Plant, C: Clock>(alloc: Global, plant: &mut P, clock: &mut C
 fn begin_at<P: Plant>(alloc: Global, plant: &mut P, reading: u64) -> Status
     requires { IsInRange reading }
     ensures begins { Begins reading (P.told plant.old) (P.told plant.new) result }
-    ensures signer { LeavesSigner (P.told plant.old) (P.told plant.new) }
+    ensures signer { (P.told plant.new).signer ≡ (P.told plant.old).signer }
 {
     match begin(alloc, plant, Moment(reading)) {
         Ok(()) => Status::Ok,

@@ -1,7 +1,13 @@
 pub mod Causes
 pub mod Plant
+pub mod Tearing
+pub mod Stops
+pub mod Joining
 pub mod Clock
 pub mod Entropy
 pub mod Loopback
 pub mod Stream
+pub mod GhostList
+pub mod Past
+pub mod MemoryDisk
 pub mod Memory

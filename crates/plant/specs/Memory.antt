@@ -1,10 +1,13 @@
 -- The outside in memory: calls that fail by a list, and what the objects are.
-use Rattle.std.specs.Prelude.{◌≡◌, ℕ, ◌+◌, ◌-◌, ◌^◌, min, max, List, [], ◌∷◌, ◌++◌, ◌⊎◌, map, Option, Some, None, find, ◌==◌}
+use Rattle.std.specs.Prelude.{◌≡◌, ℕ, ◌+◌, ◌-◌, ◌^◌, min, max, List, [], ◌∷◌, ◌++◌, ◌⊎◌, map, length, Option, Some, None, find, ◌==◌}
 use Rattle.std.specs.Option.{option_map}
 use Rattle.sha2.specs.Sha256.{sha256}
 use Rattle.plant.specs.declared.fault.Fail.{Fail}
 use Rattle.plant.specs.declared.fault.Fail.TheVariants.{Disk, NotReceived, ReplyLost}
-use Rattle.plant.specs.Plant.{PlantTold}
+use Rattle.plant.specs.Plant.{PlantTold, overwritten}
+use Rattle.std.proofs.Common.{inl, inr, refl, sym, ap}
+use Rattle.plant.specs.Stops.{Stops, LeftNow}
+use Rattle.plant.specs.Past.{Content, stops_of, none_left}
 use Rattle.plant.specs.Stream.{SourceTold, SinkTold}
 
 -- one more, up to the type's end
@@ -19,9 +22,13 @@ fail_at pairs call = option_map (λ pair. pair.1) (find (λ pair. pair.0 == call
 abbrev pub stand_in : List ℕ → List ℕ → List ℕ
 stand_in secret body = sha256 (secret ++ body)
 
--- a disk and a stand-in signer in memory; calls are counted over both
+-- a disk and a stand-in signer in memory; calls are counted over both. The bytes of the last sync, the ranges written since and
+-- the contents of the moments before say what a stop may leave
 pub record PlantMemory : Type 0 where
   pub bytes : List ℕ
+  pub stable : List ℕ
+  pub written : List (ℕ × ℕ)
+  pub past : List Content
   pub secret : List ℕ
   pub fails : List (ℕ × Fail)
   pub calls : ℕ
@@ -33,12 +40,19 @@ pub record PlantMemory : Type 0 where
 
 abbrev pub plant_told : PlantMemory → PlantTold
 plant_told plant = record {
-  bytes = Some plant.bytes;
-  sent = Some plant.sent;
-  answers = Some (map (λ body. (body, stand_in plant.secret body)) plant.answered);
-  disk_faults = plant.disk_faults;
-  signer_faults = plant.signer_faults;
+  disk = record { bytes = Some plant.bytes; faults = plant.disk_faults };
+  signer = record {
+    sent = Some plant.sent;
+    answers = Some (map (λ body. (body, stand_in plant.secret body)) plant.answered);
+    faults = plant.signer_faults;
+  };
 }
+
+abbrev pub content_of : PlantMemory → Content
+content_of plant = record { bytes = plant.bytes; stable = plant.stable; written = plant.written; sent = plant.sent }
+
+unfoldable pub plant_stops : PlantMemory → Stops
+plant_stops plant = stops_of (content_of plant) plant.past
 
 -- a call was counted; it failed; memory was wanted for it
 abbrev pub called : PlantMemory → PlantMemory
@@ -53,12 +67,27 @@ signer_failed plant = record plant { signer_faults = one_more plant.signer_fault
 abbrev pub ran_short : PlantMemory → PlantMemory
 ran_short plant = record plant { short = one_more plant.short }
 
+-- a moment is over
+abbrev pub kept : PlantMemory → PlantMemory
+kept plant = record plant { past = content_of plant ∷ plant.past }
+
+-- a range is torn until a sync, whether or not its bytes were written
+abbrev pub torn : ℕ → ℕ → PlantMemory → PlantMemory
+torn at count plant = record (kept plant) { written = (at, count) ∷ plant.written }
+
+abbrev pub wrote : ℕ → List ℕ → PlantMemory → PlantMemory
+wrote at piece plant = record (torn at (length piece) plant) { bytes = overwritten plant.bytes at piece }
+
+-- what reads is durable
+abbrev pub synced : PlantMemory → PlantMemory
+synced plant = record (kept plant) { stable = plant.bytes; written = [] }
+
 -- the signer got a body; it answered it
 abbrev pub received : List ℕ → PlantMemory → PlantMemory
-received body plant = record plant { sent = plant.sent ++ body ∷ [] }
+received body plant = record (kept plant) { sent = plant.sent ++ body ∷ [] }
 
 abbrev pub signed : List ℕ → PlantMemory → PlantMemory
-signed body plant = record plant { sent = plant.sent ++ body ∷ []; answered = plant.answered ++ body ∷ [] }
+signed body plant = record (received body plant) { answered = plant.answered ++ body ∷ [] }
 
 -- what a call of the signer leaves, by how it was to fail
 abbrev pub FailsToSign : Option Fail → List ℕ → PlantMemory → PlantMemory → Type 0
@@ -85,3 +114,14 @@ pub record SinkMemory : Type 0 where
 
 abbrev pub sink_told : SinkMemory → SinkTold
 sink_told sink = record { held = Some sink.held; faults = sink.faults }
+
+-- ---- what holds of a plant in memory
+
+pub reads_now : (plant : PlantMemory) (bytes : List ℕ) → (plant_told plant).disk.bytes ≡ Some bytes → (list : List (List ℕ)) × LeftNow (plant_stops plant) bytes list
+unfolding plant_stops
+reads_now plant bytes told = (plant.sent, inl (inl (cc told), refl))
+
+pub told_beside : (plant : PlantMemory) (image : List ℕ) (list : List (List ℕ)) → LeftNow (plant_stops plant) image list → (plant_told plant).signer.sent ≡ Some list
+unfolding plant_stops
+told_beside plant image list (inl pair) = ap Some (sym pair.1)
+told_beside plant image list (inr left) = absurd (none_left plant.past image list left)

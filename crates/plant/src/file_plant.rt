@@ -82,14 +82,18 @@ fn counted<T: Drop>(
 
 impl<R: Net + rt::Clock> Plant for FilePlant<'_, R> {
     ghost use Rattle.std.specs.Prelude.{None};
+    ghost use Rattle.plant.specs.Stops.{no_stops};
 
     ghost told = { λ p. record {
-      bytes = None;
-      sent = None;
-      answers = None;
-      disk_faults = p.disk_faults;
-      signer_faults = p.signer_faults;
+      disk = record { bytes = None; faults = p.disk_faults };
+      signer = record { sent = None; answers = None; faults = p.signer_faults };
     } };
+
+    ghost stops = { λ p. no_stops };
+
+    ghost reads = { λ p bytes told. cc told };
+
+    ghost beside = { λ p image list left. absurd left };
 
     fn length(&mut self) -> Result<u64, DiskFault> {
         let length = self.file.length();

@@ -1,25 +1,32 @@
-ghost use Rattle.std.specs.Prelude.{◌≡◌, ◌+◌, ◌<◌, ◌≤◌, ◌↔◌, [], ◌∷◌, ◌++◌, length, take, drop, if◌then◌else◌, is_some, IsSome, IsErr, IfOk, IfSome, OnOk, OnErr};
+ghost use Rattle.std.specs.Prelude.{Some, ◌≡◌, ◌+◌, ◌<◌, ◌≤◌, ◌↔◌, [], ◌∷◌, ◌++◌, length, take, drop, if◌then◌else◌, is_some, IsSome, IsErr, IfOk, IfSome, OnOk, OnErr};
 ghost use Rattle.std.specs.Option.{option_map};
-ghost use Rattle.plant.specs.Plant.{overwritten};
-ghost use Rattle.plant.specs.Memory.{one_more, fail_at, stand_in, called, disk_failed, ran_short, signed, FailsToSign};
+ghost use Rattle.plant.specs.GhostList.{items_of};
+ghost use Rattle.plant.specs.MemoryDisk.{content_value};
+ghost use Rattle.plant.specs.Stops.{IsDurable};
+ghost use Rattle.plant.specs.Tearing.{Torn};
+ghost use Rattle.plant.specs.Joining.{Stays, Follows, MaySend};
+ghost use Rattle.plant.specs.Memory.{one_more, fail_at, stand_in, called, disk_failed, ran_short, torn, wrote, synced, signed, plant_stops, FailsToSign};
 
 use crate::device::{Plant, SIGNATURE_ROOM};
 use crate::fault::{DiskFault, Fail, Fails, SignerFault};
+use crate::ghost_list::GhostList;
+use crate::memory_disk::{Content, keep_sent, overwrite, settle, tear};
 use crate::memory_source::put_front;
 use gate_base::{ByteLists, Bytes, NoMemory};
 use sha2::{Digest, Sha256};
 use std::alloc::Global;
 use std::marker::Model;
+use std::snapshot::Snapshot;
 
 /// A disk and a stand-in signer in memory, with a list of calls that fail.
-#[derive(Debug, Drop)]
+#[derive(Drop)]
 pub struct MemoryPlant {
     alloc: Global,
-    bytes: Vec<u8>,
+    content: Content,
+    past: GhostList<Content>,
     secret: Bytes,
     fails: Fails,
     calls: u64,
-    sent: ByteLists,
     answered: Vec<Bytes>,
     disk_faults: u64,
     signer_faults: u64,
@@ -27,16 +34,22 @@ pub struct MemoryPlant {
 }
 
 impl Model for MemoryPlant {
+    ghost use Rattle.std.specs.Prelude.{Some, map};
+    ghost use Rattle.plant.specs.GhostList.{items_of};
     ghost use Rattle.plant.specs.Memory.{PlantMemory};
+    ghost use Rattle.plant.specs.MemoryDisk.{content_value, ranges_of};
 
     ghost Value = { PlantMemory };
 
     ghost view = { λ p. record {
-      bytes = p.bytes.items;
+      bytes = p.content.bytes.items;
+      stable = p.content.stable.value.items;
+      written = ranges_of p.content.written;
+      past = map content_value (items_of p.past);
       secret = p.secret;
       fails = p.fails;
       calls = p.calls;
-      sent = p.sent;
+      sent = p.content.sent;
       answered = p.answered.items;
       disk_faults = p.disk_faults;
       signer_faults = p.signer_faults;
@@ -46,8 +59,11 @@ impl Model for MemoryPlant {
 
 impl MemoryPlant {
     pub fn new(alloc: Global, disk: Bytes, secret: Bytes, fails: Fails) -> MemoryPlant
-        ensures { result ≡ record {
+        ensures new { result ≡ record {
           bytes = disk;
+          stable = disk;
+          written = [];
+          past = [];
           secret = secret;
           fails = fails;
           calls = 0;
@@ -57,14 +73,23 @@ impl MemoryPlant {
           signer_faults = 0;
           short = 0;
         } }
+        // The disk is stable.
+        ensures stable { IsDurable (Some disk) (plant_stops result) }
     {
+        let bytes = disk.into_vec();
+        let content = Content {
+            stable: Snapshot::of(&bytes),
+            bytes,
+            written: GhostList::new(),
+            sent: ByteLists::new(alloc),
+        };
         MemoryPlant {
             alloc,
-            bytes: disk.into_vec(),
+            content,
+            past: GhostList::new(),
             secret,
             fails,
             calls: 0,
-            sent: ByteLists::new(alloc),
             answered: Vec::new(alloc),
             disk_faults: 0,
             signer_faults: 0,
@@ -75,13 +100,13 @@ impl MemoryPlant {
     pub fn disk(&self) -> &[u8]
         ensures { result.now ≡ self.now.bytes }
     {
-        &self.bytes
+        &self.content.bytes
     }
 
     pub fn sent(&self) -> &ByteLists
         ensures { result.now ≡ self.now.sent }
     {
-        &self.sent
+        &self.content.sent
     }
 
     /// How many calls found no memory.
@@ -114,42 +139,24 @@ fn rise(count: &mut u64)
     *count = count.saturating_add(1);
 }
 
-/// Writes a piece over what stands from a place on, and past the end.
-fn overwrite(bytes: &mut Vec<u8>, at: usize, piece: &[u8]) -> Result<(), NoMemory>
-    requires { at ≤ length bytes.old.items }
-    ensures ok { OnOk result (bytes.new.items ≡ overwritten bytes.old.items at piece.now) }
-    ensures err { OnErr result (bytes.new.items ≡ bytes.old.items) }
-{
-    let over = piece.len().min(bytes.len() - at);
-    let (front, back) = piece.split_at(over);
-    bytes.extend_from_slice(back)?;
-    bytes[at..at + over].copy_from_slice(front);
-    Ok(())
-}
-
-/// Keeps a body that the signer got.
-fn keep_sent(alloc: Global, sent: &mut ByteLists, body: &[u8]) -> Result<(), NoMemory>
-    ensures ok { OnOk result (sent.new ≡ sent.old ++ body.now ∷ []) }
-    ensures err { OnErr result (sent.new ≡ sent.old) }
-{
-    sent.push(Bytes::from_slice(alloc, body)?)
-}
-
 /// Keeps a body that the signer got and answered, in both lists or in none.
 fn keep_answered(
     alloc: Global,
-    sent: &mut ByteLists,
+    content: &mut Content,
+    past: &mut GhostList<Content>,
     answered: &mut Vec<Bytes>,
     body: &[u8],
 ) -> Result<(), NoMemory>
-    ensures sent { OnOk result (sent.new ≡ sent.old ++ body.now ∷ []) }
+    ensures content { OnOk result (content_value content.new ≡ record (content_value content.old) { sent = content.old.sent ++ body.now ∷ [] }) }
+    ensures past { OnOk result (items_of past.new ≡ content.old ∷ items_of past.old) }
     ensures answered { OnOk result (answered.new.items ≡ answered.old.items ++ body.now ∷ []) }
-    ensures unsent { OnErr result (sent.new ≡ sent.old) }
+    ensures unsent { OnErr result (content_value content.new ≡ content_value content.old) }
+    ensures unkept { OnErr result (past.new ≡ past.old) }
     ensures unanswered { OnErr result (answered.new.items ≡ answered.old.items) }
 {
     let kept = Bytes::from_slice(alloc, body)?;
     answered.reserve(1)?;
-    keep_sent(alloc, sent, body)?;
+    keep_sent(alloc, content, past, body)?;
     match answered.push(kept) {
         Ok(()) => Ok(()),
         Err(_) => unreachable!(),
@@ -170,54 +177,70 @@ pub fn put_stand_in(secret: &Bytes, body: &[u8], out: &mut [u8]) -> usize
 }
 
 impl Plant for MemoryPlant {
-    ghost use Rattle.plant.specs.Memory.{plant_told};
+    ghost use Rattle.plant.specs.Memory.{plant_told, plant_stops, reads_now, told_beside};
 
     ghost told = { plant_told };
 
+    ghost stops = { plant_stops };
+
+    ghost reads = { reads_now };
+
+    ghost beside = { told_beside };
+
+    #[tactic(auto, using(crate::proofs::Moments::failed_stops))]
     fn length(&mut self) -> Result<u64, DiskFault>
         ensures count { IfOk result (λ count. count ≡ length self.old.bytes) }
         ensures ok { OnOk result (self.new ≡ called self.old) }
         ensures err { OnErr result (self.new ≡ disk_failed (called self.old)) }
         // It fails exactly where its list says so.
         ensures failing { IsErr result ↔ IsSome (fail_at self.old.fails self.new.calls) }
+        ensures moments { Stays (plant_stops self.old) (plant_stops self.new) }
     {
         if begin_call(&mut self.calls, &self.fails).is_some() {
             rise(&mut self.disk_faults);
             return Err(DiskFault);
         }
-        Ok(self.bytes.len() as u64)
+        Ok(self.content.bytes.len() as u64)
     }
 
+    #[tactic(auto, using(crate::proofs::Moments::failed_stops))]
     fn read_at(&mut self, at: u64, out: &mut [u8]) -> Result<(), DiskFault>
         requires { at + length out.old ≤ length self.old.bytes }
         ensures given { OnOk result (out.new ≡ take (length out.old) (drop at self.old.bytes)) }
         ensures ok { OnOk result (self.new ≡ called self.old) }
         ensures err { OnErr result (self.new ≡ disk_failed (called self.old)) }
         ensures failing { IsErr result ↔ IsSome (fail_at self.old.fails self.new.calls) }
+        ensures moments { Stays (plant_stops self.old) (plant_stops self.new) }
     {
         if begin_call(&mut self.calls, &self.fails).is_some() {
             rise(&mut self.disk_faults);
             return Err(DiskFault);
         }
-        let (_, left) = self.bytes.as_slice().split_at(at as usize);
+        let (_, left) = self.content.bytes.as_slice().split_at(at as usize);
         let (piece, _) = left.split_at(out.len());
         out.copy_from_slice(piece);
         Ok(())
     }
 
+    #[tactic(auto, using(crate::proofs::Moments::wrote_stops))]
     fn write_at(&mut self, at: u64, piece: &[u8]) -> Result<(), DiskFault>
         requires { at ≤ length self.old.bytes }
-        ensures ok { OnOk result (self.new ≡ record (called self.old) { bytes = overwritten self.old.bytes at piece.now }) }
+        ensures ok { OnOk result (self.new ≡ wrote at piece.now (called self.old)) }
         // A write that fails writes nothing; it fails where the list says so, and otherwise only when out of memory.
         ensures err { OnErr result (self.new ≡ (if is_some (fail_at self.old.fails self.new.calls)
-            then disk_failed (called self.old) else disk_failed (ran_short (called self.old)))) }
+            then disk_failed (torn at (length piece.now) (called self.old))
+            else disk_failed (ran_short (torn at (length piece.now) (called self.old))))) }
+        ensures moments { Follows (Torn at (length piece.now)) (plant_stops self.old) (plant_stops self.new) }
         ensures listed { IsSome (fail_at self.old.fails self.new.calls) → IsErr result }
     {
+        let before = Snapshot::of(&self.content);
+        self.past.push(before);
+        tear(&mut self.content, at, piece.len());
         if begin_call(&mut self.calls, &self.fails).is_some() {
             rise(&mut self.disk_faults);
             return Err(DiskFault);
         }
-        match overwrite(&mut self.bytes, at as usize, piece) {
+        match overwrite(&mut self.content.bytes, at as usize, piece) {
             Ok(()) => Ok(()),
             Err(NoMemory) => {
                 rise(&mut self.short);
@@ -227,15 +250,21 @@ impl Plant for MemoryPlant {
         }
     }
 
+    #[tactic(auto, using(crate::proofs::Moments::synced_stops, crate::proofs::Moments::failed_stops))]
     fn sync(&mut self) -> Result<(), DiskFault>
-        ensures ok { OnOk result (self.new ≡ called self.old) }
+        ensures ok { OnOk result (self.new ≡ synced (called self.old)) }
         ensures err { OnErr result (self.new ≡ disk_failed (called self.old)) }
+        ensures durable { OnOk result (IsDurable (plant_told self.new).disk.bytes (plant_stops self.new)) }
+        ensures moments { Stays (plant_stops self.old) (plant_stops self.new) }
         ensures failing { IsErr result ↔ IsSome (fail_at self.old.fails self.new.calls) }
     {
-        if begin_call(&mut self.calls, &self.fails).is_some() {
+        let failing = begin_call(&mut self.calls, &self.fails);
+        if failing.is_some() {
             rise(&mut self.disk_faults);
             return Err(DiskFault);
         }
+        self.past.push(Snapshot::of(&self.content));
+        settle(&mut self.content);
         Ok(())
     }
 
@@ -243,23 +272,34 @@ impl Plant for MemoryPlant {
         requires { length out.old ≡ SIGNATURE_ROOM }
         ensures size { IfOk result (λ count. count ≡ 32) }
         ensures signature { IfOk result (λ count. take count out.new ≡ stand_in self.old.secret body.now) }
-        ensures answered { IfOk result (λ count. (plant_told self.new).answers
-            ≡ option_map (λ list. list ++ (body.now, take count out.new) ∷ []) (plant_told self.old).answers) }
+        ensures answered { IfOk result (λ count. (plant_told self.new).signer.answers
+            ≡ option_map (λ list. list ++ (body.now, take count out.new) ∷ []) (plant_told self.old).signer.answers) }
         ensures ok { OnOk result (self.new ≡ signed body.now (called self.old)) }
         ensures err { OnErr result (FailsToSign (fail_at self.old.fails self.new.calls) body.now (called self.old) self.new) }
+        ensures moments { MaySend body.now (plant_stops self.old) (plant_stops self.new) }
         ensures listed { IsSome (fail_at self.old.fails self.new.calls) → IsErr result }
     {
         match begin_call(&mut self.calls, &self.fails) {
-            None => match keep_answered(self.alloc, &mut self.sent, &mut self.answered, body) {
-                Ok(()) => Ok(put_stand_in(&self.secret, body, out)),
-                Err(NoMemory) => {
-                    rise(&mut self.short);
-                    rise(&mut self.signer_faults);
-                    Err(SignerFault)
+            None => {
+                let kept = keep_answered(
+                    self.alloc,
+                    &mut self.content,
+                    &mut self.past,
+                    &mut self.answered,
+                    body,
+                );
+                match kept {
+                    Ok(()) => Ok(put_stand_in(&self.secret, body, out)),
+                    Err(NoMemory) => {
+                        rise(&mut self.short);
+                        rise(&mut self.signer_faults);
+                        Err(SignerFault)
+                    }
                 }
-            },
+            }
             Some(Fail::ReplyLost) => {
-                if let Err(NoMemory) = keep_sent(self.alloc, &mut self.sent, body) {
+                let kept = keep_sent(self.alloc, &mut self.content, &mut self.past, body);
+                if let Err(NoMemory) = kept {
                     rise(&mut self.short);
                 }
                 rise(&mut self.signer_faults);

@@ -1,4 +1,6 @@
-ghost use Rattle.std.specs.Prelude.{◌≡◌};
+ghost use Rattle.std.specs.Prelude.{◌≡◌, [], ◌∷◌};
+ghost use Rattle.plant.specs.Stops.{LeftNow};
+ghost use Rattle.plant.specs.Memory.{plant_stops};
 
 use super::*;
 use crate::loopback::exchange;
@@ -48,6 +50,25 @@ fn a_plant_in_memory_fails_by_its_list(rt: HostRuntime) {
     // SHA-256 of "abc", as FIPS 180-4 gives it
     assert_eq!(rt; &out[..4], [0xba, 0x78, 0x16, 0xbf].as_slice());
     assert_eq!(rt; plant.short(), 0);
+}
+
+/// A disk of three bytes, the last two of which were written over without a sync.
+fn written_over<R: Abort>(rt: &R, alloc: Global) -> MemoryPlant
+    // A stop may leave what stood there, what was written, or anything else in the range.
+    ensures before { LeftNow (plant_stops result) (97 ∷ 98 ∷ 99 ∷ []) [] }
+    ensures written { LeftNow (plant_stops result) (97 ∷ 120 ∷ 121 ∷ []) [] }
+    ensures torn { LeftNow (plant_stops result) (97 ∷ 120 ∷ 0 ∷ []) [] }
+{
+    let disk = bytes(rt, alloc, b"abc");
+    let mut plant = MemoryPlant::new(alloc, disk, Sequence::new(alloc), Sequence::new(alloc));
+    plant.write_at(1, b"xy").expect(rt, "memory");
+    plant
+}
+
+#[test]
+fn a_stop_may_tear_a_write(rt: HostRuntime) {
+    let plant = written_over(&rt, rt.alloc());
+    assert_eq!(rt; plant.disk(), b"axy".as_slice());
 }
 
 #[test]

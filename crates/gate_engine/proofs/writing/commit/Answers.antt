@@ -1,5 +1,5 @@
 use Rattle.std.proofs.Common.{List, ℕ, ◌++◌, ◌∷◌, [], length, ap, subst, arith}
-use Rattle.journal_core.specs.Journal.{StandsFor}
+use Rattle.plain_journal.specs.Journal.{StandsFor}
 use Rattle.gate_engine.specs.Engine.{payloads_of}
 use Rattle.gate_engine.proofs.Stands.{some_bytes, stands_more}
 use Rattle.gate_engine.proofs.writing.commit.Goals as goal
@@ -11,7 +11,7 @@ append-requires-clause-payload g c =
 
 pub returns-in-Ok-push-clause-stands : goal.returns-in-Ok-push-clause-stands
 returns-in-Ok-push-clause-stands g c = λ none.
-    let told = (g.P.Plant.told c.append.new.plant).bytes in
+    let told = (g.P.Plant.told c.append.new.plant).disk.bytes in
     let more = subst (λ (p : List ℕ). StandsFor (payloads_of c.args.history.now.items ++ p ∷ []) told) c.requires.payload
     (c.in-Ok.ensures.journal (payloads_of c.args.history.now.items) (c.requires.stands c.requires.settled)) in
     stands_more c.args.history.now.items _ c.args.entry told more c.in-Ok-push.ensures.items

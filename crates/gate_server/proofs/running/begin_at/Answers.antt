@@ -1,5 +1,5 @@
 use Rattle.std.proofs.Common.{length, Err, ap, arith}
-use Rattle.journal_core.specs.declared.fault.BeginFault.{BeginFault}
+use Rattle.plain_journal.specs.declared.fault.BeginFault.{BeginFault}
 use Rattle.gate_server.proofs.running.begin_at.Goals as goal
 
 pub returns-in-Err-NotEmpty-clause-begins : goal.returns-in-Err-NotEmpty-clause-begins
