@@ -1,0 +1,5 @@
+pub mod Groups
+pub mod Gates
+pub mod Moments
+pub mod Commits
+pub mod Appends
