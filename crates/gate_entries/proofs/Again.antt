@@ -11,7 +11,7 @@ use Rattle.gate_base.specs.declared.name.Target.{Target}
 use Rattle.gate_base.specs.declared.name.Target.TheVariants.{Dns, Ip}
 use Rattle.gate_entries.specs.declared.entry.Entry.{Entry}
 use Rattle.gate_entries.specs.declared.entry.What.{What}
-use Rattle.gate_entries.specs.declared.entry.What.TheVariants.{Settings, Order, Send, Signed, Blocked}
+use Rattle.gate_entries.specs.declared.entry.What.TheVariants.{Settings, Order, Challenge, Observation, CaaAnswer, Send, Signed, Blocked}
 use Rattle.gate_entries.specs.Spelling.{counted, truth, labels_text, target_bytes, targets_bytes, kind_of, what_bytes, entry_bytes, IsTarget, IsWhat, HasCaller, most_bytes, IsEntry}
 use Rattle.gate_entries.specs.Reading.{◌>>=◌, bytes_at, number_at, bytes_behind, counted_at, truth_at, target_or, text_at, name_at, v4_at, v6_at, target_at, targets_at, order_at, settings_at, send_at, signed_at, blocked_at, what_at, kind_at, caller_behind, caller_at, fields_at, whole_entry}
 use Rattle.gate_entries.proofs.Names.{text_size, name_behind-text}
@@ -107,6 +107,9 @@ what_again (Order key common days targets request) rest is =
     (bind_is (number_at w8 r3) (length targets, r4) _ whole (number_again w8 (2 ^ 8) wide8 (length targets) r4 is.are_targets.count)
     (bind_is (targets_at (length targets) r4) (targets, r5) _ whole (targets_again targets r5 is.are_targets.each)
     (bind_is (counted_at w16 r5) (request, rest) _ whole (counted_again w16 (2 ^ 16) wide16 request rest is.request_fits) refl)))))
+what_again (Challenge key order method target value thumb) rest is = ?
+what_again (Observation key challenge seen_at seen) rest is = ?
+what_again (CaaAnswer key order target seen_at answers) rest is = ?
 what_again (Send order body) rest is =
     let r1 = counted w16 body ++ rest in
     let whole : Result (What × List ℕ) ℕ = Ok (Send order body, rest) in
@@ -130,6 +133,9 @@ pub kind_again : (what : What) (rest : List ℕ) → kind_at (kind_of what ∷ r
 unfolding kind_at
 kind_again (Settings bytes) rest = refl
 kind_again (Order key common days targets request) rest = refl
+kind_again (Challenge key order method target value thumb) rest = ?
+kind_again (Observation key challenge seen_at seen) rest = ?
+kind_again (CaaAnswer key order target seen_at answers) rest = ?
 kind_again (Send order body) rest = refl
 kind_again (Signed order signature) rest = refl
 kind_again (Blocked key spki) rest = refl
@@ -143,6 +149,9 @@ caller_again caller (Settings bytes) rest fits from =
 caller_again caller (Order key common days targets request) rest fits from =
     bind_is (counted_at w16 (counted w16 caller ++ rest)) (caller, rest) (caller_behind 2 (length (counted w16 caller ++ rest))) (Ok (caller, rest))
     (counted_again w16 (2 ^ 16) wide16 caller rest fits) refl
+caller_again caller (Challenge key order method target value thumb) rest fits from = ?
+caller_again caller (Observation key challenge seen_at seen) rest fits from = ?
+caller_again caller (CaaAnswer key order target seen_at answers) rest fits from = ?
 caller_again caller (Send order body) rest fits from =
     bind_is (counted_at w16 (counted w16 caller ++ rest)) (caller, rest) (caller_behind 6 (length (counted w16 caller ++ rest))) (Ok (caller, rest))
     (counted_again w16 (2 ^ 16) wide16 caller rest fits) refl

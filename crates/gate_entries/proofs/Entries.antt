@@ -7,7 +7,7 @@ use Rattle.std.proofs.lemmas.List.{nil_from_length}
 use Rattle.gate_base.specs.declared.name.Target.{Target}
 use Rattle.gate_entries.specs.declared.entry.Entry.{Entry}
 use Rattle.gate_entries.specs.declared.entry.What.{What}
-use Rattle.gate_entries.specs.declared.entry.What.TheVariants.{Settings, Order, Send, Signed, Blocked}
+use Rattle.gate_entries.specs.declared.entry.What.TheVariants.{Settings, Order, Challenge, Observation, CaaAnswer, Send, Signed, Blocked}
 use Rattle.gate_entries.specs.Spelling.{counted, target_bytes, targets_bytes, kind_of, what_bytes, entry_bytes, IsWhat, HasCaller, most_bytes, IsEntry}
 use Rattle.gate_entries.specs.Reading.{◌>>=◌, number_at, counted_at, truth_at, targets_at, order_at, settings_at, send_at, signed_at, blocked_at, what_at, is_kind, kind_at, caller_behind, caller_at, fields_at, with_no_rest, whole_entry}
 use Rattle.gate_entries.proofs.Fields.{IsBytes, IsBytes-rest, bind_ok, guard_ok, guard_met, as_made, Takes, takes_both, wide8, wide16, wide32, wide64, number_takes, counted_takes, truth_takes}
@@ -164,6 +164,9 @@ record AreFields (entry : Entry) : Type 0 where
 has_caller : (caller : List ℕ) (what : What) → (kind_of what ≡ 1 → caller ≡ []) → HasCaller caller what
 has_caller caller (Settings bytes) nobody = nobody refl
 has_caller caller (Order key common days targets request) nobody = tt
+has_caller caller (Challenge key order method target value thumb) nobody = tt
+has_caller caller (Observation key challenge seen_at seen) nobody = tt
+has_caller caller (CaaAnswer key order target seen_at answers) nobody = tt
 has_caller caller (Send order body) nobody = tt
 has_caller caller (Signed order signature) nobody = tt
 has_caller caller (Blocked key spki) nobody = tt

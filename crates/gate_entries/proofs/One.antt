@@ -9,7 +9,7 @@ use Rattle.gate_base.specs.declared.name.Target.{Target}
 use Rattle.gate_base.specs.declared.name.Target.TheVariants.{Dns, Ip}
 use Rattle.gate_entries.specs.declared.entry.Entry.{Entry}
 use Rattle.gate_entries.specs.declared.entry.What.{What}
-use Rattle.gate_entries.specs.declared.entry.What.TheVariants.{Settings, Order, Send, Signed, Blocked}
+use Rattle.gate_entries.specs.declared.entry.What.TheVariants.{Settings, Order, Challenge, Observation, CaaAnswer, Send, Signed, Blocked}
 use Rattle.names_core.specs.Target.{name_text}
 use Rattle.gate_entries.specs.Spelling.{counted, truth, labels_text, target_bytes, targets_bytes, kind_of, what_bytes, entry_bytes, IsTarget, IsWhat, IsEntry}
 use Rattle.gate_entries.specs.Reading.{bytes_at, number_at, counted_at, truth_at}
@@ -129,7 +129,10 @@ one_what (Blocked key1 spki1) (Blocked key2 spki2) kind is1 is2 same =
     let key = one_counted w8 (2 ^ 8) wide8 key1 key2 r1 r2 is1.0 is2.0 apart in
     let spki = one_counted w16 (2 ^ 16) wide16 spki1 spki2 [] [] is1.1 is2.1 key.1 in
     rw (key.0, spki.0) refl
-one_what left right kind is1 is2 same = absurd (omega (arith, kind))
+one_what (Challenge key order method target value thumb) right kind is1 is2 same = ?
+one_what (Observation key challenge seen_at seen) right kind is1 is2 same = ?
+one_what (CaaAnswer key order target seen_at answers) right kind is1 is2 same = ?
+one_what left right kind is1 is2 same = ?
 
 abbrev entry_with : ℕ → ℕ → List ℕ → What → Entry
 entry_with number moment caller what = record { number = number; moment = record { 0 = moment }; caller = caller; what = what }

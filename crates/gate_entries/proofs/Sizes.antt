@@ -89,6 +89,9 @@ command_spelled number moment caller (commands.Order key targets days common req
     let all = targets_size targets is.are_targets.each in
     let size = order_size key common days targets request (omega (arith, all)) is.key_fits is.are_targets.count is.request_fits in
     written_spelled number moment caller.id (whats.Order key common days targets request) number_fits moment_fits from tt spelled size
+command_spelled number moment caller (commands.Challenge key order target method) number_fits moment_fits is spelled from = ?
+command_spelled number moment caller (commands.Observe key challenge seen_at seen) number_fits moment_fits is spelled from = ?
+command_spelled number moment caller (commands.ObserveCaa key order target seen_at caa) number_fits moment_fits is spelled from = ?
 command_spelled number moment caller (commands.Finalize order) number_fits moment_fits is spelled from = tt
 command_spelled number moment caller (commands.Block key spki) number_fits moment_fits is spelled from =
     written_spelled number moment caller.id (whats.Blocked key spki) number_fits moment_fits from tt spelled (block_size key spki is.key_fits is.spki_fits)
@@ -133,6 +136,9 @@ fits_whole (commands.Order key targets days common request) fits = record {
   fields = fits;
   size = omega (arith, fit_targets targets fits.each, fits.key_fits, fits.count, fits.request_fits);
 }
+fits_whole (commands.Challenge key order target method) fits = ?
+fits_whole (commands.Observe key challenge seen_at seen) fits = ?
+fits_whole (commands.ObserveCaa key order target seen_at caa) fits = ?
 fits_whole (commands.Finalize order) fits = record { fields = fits; size = omega arith }
 fits_whole (commands.Block key spki) fits = record { fields = fits; size = omega (arith, fits.key_fits, fits.spki_fits) }
 
@@ -143,6 +149,9 @@ fits_command (commands.Order key targets days common request) fits named = recor
   are_targets = record { count = fits.count; each = named };
   request_fits = fits.request_fits;
 }
+fits_command (commands.Challenge key order target method) fits named = ?
+fits_command (commands.Observe key challenge seen_at seen) fits named = ?
+fits_command (commands.ObserveCaa key order target seen_at caa) fits named = ?
 fits_command (commands.Finalize order) fits named = tt
 fits_command (commands.Block key spki) fits named = fits
 

@@ -16,12 +16,20 @@ use Rattle.gate_entries.specs.Spelling.{IsTarget, AreTargets}
 -- the retry key under which a caller's entry stands
 abbrev pub key_of : What → Option (List ℕ)
 key_of (whats.Order key common days targets request) = Some key
+key_of (whats.Challenge key order method target value thumb) = Some key
+key_of (whats.Observation key challenge seen_at seen) = Some key
+key_of (whats.CaaAnswer key order target seen_at answers) = Some key
 key_of (whats.Blocked key spki) = Some key
-key_of what = None
+key_of (whats.Settings bytes) = None
+key_of (whats.Send order body) = None
+key_of (whats.Signed order signature) = None
 
--- what a command's entry says, where the command says all of it; what is sent for an order says more
+-- what a command's entry says, where the command says all of it; a challenge and what is sent for an order say more
 abbrev pub what_of : Command → Option What
 what_of (commands.Order key targets days common request) = Some (whats.Order key common days targets request)
+what_of (commands.Challenge key order target method) = None
+what_of (commands.Observe key challenge seen_at seen) = Some (whats.Observation key challenge seen_at seen)
+what_of (commands.ObserveCaa key order target seen_at caa) = Some (whats.CaaAnswer key order target seen_at caa)
 what_of (commands.Block key spki) = Some (whats.Blocked key spki)
 what_of (commands.Finalize order) = None
 
@@ -50,6 +58,7 @@ abbrev pub IsCommand : Command → Type 0
 IsCommand (commands.Order key targets days common request) = IsAskedOrder key targets request
 IsCommand (commands.Finalize order) = Unit {0}
 IsCommand (commands.Block key spki) = IsAskedBlock key spki
+IsCommand command = Unit {0}
 
 -- each target of the command has a spelling
 abbrev pub HasNames : Command → Type 0
@@ -63,6 +72,9 @@ IsCaller caller = length caller.id ≤ 64
 -- which commands a role has
 abbrev pub may_ask : Role → Command → Bool
 may_ask roles.Account (commands.Order key targets days common request) = true
+may_ask roles.Account (commands.Challenge key order target method) = true
 may_ask roles.Account (commands.Finalize order) = true
+may_ask roles.Perspective (commands.Observe key challenge seen_at seen) = true
+may_ask roles.Perspective (commands.ObserveCaa key order target seen_at caa) = true
 may_ask roles.Operator (commands.Block key spki) = true
 may_ask role command = false

@@ -24,6 +24,7 @@ abbrev pub FieldsFit : Command → Type 0
 FieldsFit (commands.Order key targets days common request) = OrderFits key targets request
 FieldsFit (commands.Finalize order) = Unit {0}
 FieldsFit (commands.Block key spki) = IsAskedBlock key spki
+FieldsFit command = Unit {0}
 
 -- how many bytes a target takes in an entry
 abbrev pub target_length : Target → ℕ
@@ -37,6 +38,7 @@ given_length (commands.Order key targets days common request) =
     (1 + length key) + 1 + 2 + (1 + sum_by target_length targets) + (2 + length request)
 given_length (commands.Finalize order) = 8
 given_length (commands.Block key spki) = (1 + length key) + (2 + length spki)
+given_length command = 0
 
 -- each field fits its count, and the entry fits with its kind, number and moment and with a caller of 64 bytes
 pub record Fits (command : Command) : Type 0 where

@@ -4,7 +4,7 @@ ghost use Rattle.gate_entries.specs.Command.{what_of, entry_for, may_ask, IsComm
 
 use crate::caller::Caller;
 use crate::entry::{Entry, What};
-use gate_base::{Bytes, Moment, NoMemory, Plain, Role, Targets};
+use gate_base::{Bytes, CaaSeen, Method, Moment, NoMemory, Plain, Role, Seen, Target, Targets};
 use std::alloc::Global;
 
 /// What a caller asks.
@@ -22,6 +22,36 @@ pub enum Command {
         /// The certificate request (RFC 2986), as DER.
         request: Bytes,
     },
+    /// A random value by whose publication the account shows that it controls a target.
+    Challenge {
+        /// The caller's retry key.
+        key: Bytes,
+        /// The order's number.
+        order: u64,
+        target: Target,
+        method: Method,
+    },
+    /// That what a perspective saw of a challenge be kept.
+    Observe {
+        /// The caller's retry key.
+        key: Bytes,
+        /// The challenge's number.
+        challenge: u64,
+        /// When it was seen, in seconds since 1970-01-01T00:00:00Z.
+        seen_at: u64,
+        seen: Seen,
+    },
+    /// That the CAA records which a perspective found for a target be kept (RFC 8659).
+    ObserveCaa {
+        /// The caller's retry key.
+        key: Bytes,
+        /// The order's number.
+        order: u64,
+        target: Target,
+        /// When they were asked for, in seconds since 1970-01-01T00:00:00Z.
+        seen_at: u64,
+        caa: CaaSeen,
+    },
     /// That an order's certificate be signed, or told again.
     Finalize {
         /// The order's number.
@@ -37,12 +67,16 @@ pub enum Command {
 }
 
 impl Command {
-    /// Whether a role has the command: an account may order and finalize, an operator may block.
+    /// Whether a role has the command: an account may order, ask for a challenge and finalize, a perspective may tell what
+    /// it saw, and an operator may block.
     pub fn allowed(&self, role: Role) -> bool
         ensures { result ≡ may_ask role self.now }
     {
         match self {
-            Command::Order { .. } | Command::Finalize { .. } => role == Role::Account,
+            Command::Order { .. } | Command::Challenge { .. } | Command::Finalize { .. } => {
+                role == Role::Account
+            }
+            Command::Observe { .. } | Command::ObserveCaa { .. } => role == Role::Perspective,
             Command::Block { .. } => role == Role::Operator,
         }
     }
@@ -109,7 +143,31 @@ impl Command {
                 targets: targets.copied(alloc)?,
                 request: request.copied(alloc)?,
             })),
-            Command::Finalize { .. } => Ok(None),
+            Command::Observe {
+                key,
+                challenge,
+                seen_at,
+                seen,
+            } => Ok(Some(What::Observation {
+                key: key.copied(alloc)?,
+                challenge: *challenge,
+                seen_at: *seen_at,
+                seen: seen.copied(alloc)?,
+            })),
+            Command::ObserveCaa {
+                key,
+                order,
+                target,
+                seen_at,
+                caa,
+            } => Ok(Some(What::CaaAnswer {
+                key: key.copied(alloc)?,
+                order: *order,
+                target: target.copied(alloc)?,
+                seen_at: *seen_at,
+                answers: caa.copied(alloc)?,
+            })),
+            Command::Challenge { .. } | Command::Finalize { .. } => Ok(None),
             Command::Block { key, spki } => Ok(Some(What::Blocked {
                 key: key.copied(alloc)?,
                 spki: spki.copied(alloc)?,

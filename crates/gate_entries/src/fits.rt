@@ -41,7 +41,10 @@ impl Command {
                     && targets_fit(targets.as_slice())
                     && request.len() <= MOST_COUNTED16
             }
-            Command::Finalize { .. } => true,
+            Command::Challenge { .. }
+            | Command::Observe { .. }
+            | Command::ObserveCaa { .. }
+            | Command::Finalize { .. } => true,
             Command::Block { key, spki } => {
                 key.len() <= MOST_COUNTED8 && spki.len() <= MOST_COUNTED16
             }

@@ -28,6 +28,9 @@ fn what_len(what: &What) -> u64
             request,
             ..
         } => 7 + key.len() as u64 + targets_len(targets.as_slice()) + request.len() as u64,
+        What::Challenge { .. } | What::Observation { .. } | What::CaaAnswer { .. } => {
+            unreachable!()
+        }
         What::Send { body, .. } => 10 + body.len() as u64,
         What::Signed { signature, .. } => 10 + signature.len() as u64,
         What::Blocked { key, spki } => 3 + key.len() as u64 + spki.len() as u64,

@@ -31,6 +31,72 @@ impl Plain for What {
                     && request.is_same(other_request)
             }
             (
+                What::Challenge {
+                    key,
+                    order,
+                    method,
+                    target,
+                    value,
+                    thumb,
+                },
+                What::Challenge {
+                    key: other_key,
+                    order: other_order,
+                    method: other_method,
+                    target: other_target,
+                    value: other_value,
+                    thumb: other_thumb,
+                },
+            ) => {
+                order == other_order
+                    && method == other_method
+                    && value == other_value
+                    && key.is_same(other_key)
+                    && target.is_same(other_target)
+                    && thumb.is_same(other_thumb)
+            }
+            (
+                What::Observation {
+                    key,
+                    challenge,
+                    seen_at,
+                    seen,
+                },
+                What::Observation {
+                    key: other_key,
+                    challenge: other_challenge,
+                    seen_at: other_seen_at,
+                    seen: other_seen,
+                },
+            ) => {
+                challenge == other_challenge
+                    && seen_at == other_seen_at
+                    && key.is_same(other_key)
+                    && seen.is_same(other_seen)
+            }
+            (
+                What::CaaAnswer {
+                    key,
+                    order,
+                    target,
+                    seen_at,
+                    answers,
+                },
+                What::CaaAnswer {
+                    key: other_key,
+                    order: other_order,
+                    target: other_target,
+                    seen_at: other_seen_at,
+                    answers: other_answers,
+                },
+            ) => {
+                order == other_order
+                    && seen_at == other_seen_at
+                    && key.is_same(other_key)
+                    && target.is_same(other_target)
+                    && answers.is_same(other_answers)
+            }
+            (
                 What::Send { order, body },
                 What::Send {
                     order: other_order,
@@ -72,6 +138,45 @@ impl Plain for What {
                 days: *days,
                 targets: targets.copied(alloc)?,
                 request: request.copied(alloc)?,
+            }),
+            What::Challenge {
+                key,
+                order,
+                method,
+                target,
+                value,
+                thumb,
+            } => Ok(What::Challenge {
+                key: key.copied(alloc)?,
+                order: *order,
+                method: *method,
+                target: target.copied(alloc)?,
+                value: *value,
+                thumb: thumb.copied(alloc)?,
+            }),
+            What::Observation {
+                key,
+                challenge,
+                seen_at,
+                seen,
+            } => Ok(What::Observation {
+                key: key.copied(alloc)?,
+                challenge: *challenge,
+                seen_at: *seen_at,
+                seen: seen.copied(alloc)?,
+            }),
+            What::CaaAnswer {
+                key,
+                order,
+                target,
+                seen_at,
+                answers,
+            } => Ok(What::CaaAnswer {
+                key: key.copied(alloc)?,
+                order: *order,
+                target: target.copied(alloc)?,
+                seen_at: *seen_at,
+                answers: answers.copied(alloc)?,
             }),
             What::Send { order, body } => Ok(What::Send {
                 order: *order,

@@ -37,6 +37,9 @@ fn put_kind(what: &What, out: &mut Vec<u8>) -> Result<(), NoMemory>
     let kind = match what {
         What::Settings { .. } => 1,
         What::Order { .. } => 2,
+        What::Challenge { .. } => 3,
+        What::Observation { .. } => 4,
+        What::CaaAnswer { .. } => 5,
         What::Send { .. } => 6,
         What::Signed { .. } => 7,
         What::Blocked { .. } => 8,
@@ -70,6 +73,9 @@ fn put_what(what: &What, out: &mut Vec<u8>) -> Result<(), NoMemory>
             out.extend_from_slice(&days.to_be_bytes())?;
             put_targets(targets, out)?;
             put_counted16(request, out)
+        }
+        What::Challenge { .. } | What::Observation { .. } | What::CaaAnswer { .. } => {
+            unreachable!()
         }
         What::Send { order, body } => {
             put_u64(*order, out)?;
