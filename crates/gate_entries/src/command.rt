@@ -2,8 +2,11 @@ ghost use Rattle.std.specs.Prelude.{◌≡◌, IfOk, IfSome};
 ghost use Rattle.gate_entries.specs.Spelling.{IsWhat, IsEntry};
 ghost use Rattle.gate_entries.specs.Command.{what_of, entry_for, may_ask, IsCommand, IsCaller};
 
+use crate::caa_answer::copied_caa;
 use crate::caller::Caller;
 use crate::entry::{Entry, What};
+use crate::observation::copied_observation;
+use crate::order::copied_order;
 use gate_base::{Bytes, CaaSeen, Method, Moment, NoMemory, Plain, Role, Seen, Target, Targets};
 use std::alloc::Global;
 
@@ -123,55 +126,39 @@ impl Command {
     }
 
     /// What the command's entry says, where the command says all of it.
-    #[tactic(auto, using(crate::proofs::Sizes::ordered))]
+    #[tactic(auto, using(crate::proofs::Sizes::ordered, crate::proofs::Sizes::observed, crate::proofs::Sizes::answered))]
     fn what(&self, alloc: Global) -> Result<Option<What>, NoMemory>
         requires { IsCommand self.now }
         ensures what { IfOk result (λ what. what ≡ what_of self.now) }
         ensures spelled { IfOk result (λ what. IfSome what IsWhat) }
     {
-        match self {
+        let what = match self {
             Command::Order {
                 key,
                 targets,
                 days,
                 common,
                 request,
-            } => Ok(Some(What::Order {
-                key: key.copied(alloc)?,
-                common: *common,
-                days: *days,
-                targets: targets.copied(alloc)?,
-                request: request.copied(alloc)?,
-            })),
+            } => copied_order(alloc, key, *common, *days, targets, request)?,
             Command::Observe {
                 key,
                 challenge,
                 seen_at,
                 seen,
-            } => Ok(Some(What::Observation {
-                key: key.copied(alloc)?,
-                challenge: *challenge,
-                seen_at: *seen_at,
-                seen: seen.copied(alloc)?,
-            })),
+            } => copied_observation(alloc, key, *challenge, *seen_at, seen)?,
             Command::ObserveCaa {
                 key,
                 order,
                 target,
                 seen_at,
                 caa,
-            } => Ok(Some(What::CaaAnswer {
-                key: key.copied(alloc)?,
-                order: *order,
-                target: target.copied(alloc)?,
-                seen_at: *seen_at,
-                answers: caa.copied(alloc)?,
-            })),
-            Command::Challenge { .. } | Command::Finalize { .. } => Ok(None),
-            Command::Block { key, spki } => Ok(Some(What::Blocked {
+            } => copied_caa(alloc, key, *order, target, *seen_at, caa)?,
+            Command::Block { key, spki } => What::Blocked {
                 key: key.copied(alloc)?,
                 spki: spki.copied(alloc)?,
-            })),
-        }
+            },
+            Command::Challenge { .. } | Command::Finalize { .. } => return Ok(None),
+        };
+        Ok(Some(what))
     }
 }

@@ -3,9 +3,7 @@ ghost use Rattle.std.specs.Option.{option_copied};
 ghost use Rattle.gate_entries.specs.Command.{key_of};
 
 use crate::caller::Caller;
-use gate_base::{
-    Bytes, CaaSeen, Method, Moment, NoMemory, Plain, Seen, Sixteen, Target, Targets,
-};
+use gate_base::{Bytes, CaaSeen, Method, Moment, NoMemory, Plain, Seen, Sixteen, Target, Targets};
 use std::alloc::Global;
 
 /// One entry of the journal.
