@@ -66,7 +66,6 @@ impl Command {
     }
 
     /// Whether the entry is within its limit. Such fields of the other commands are far below it.
-    #[tactic(auto, using(crate::proofs::Sizes::order_given, crate::proofs::Sizes::challenge_given, crate::proofs::Sizes::block_given))]
     fn is_small(&self) -> bool
         requires { FieldsFit self.now }
         ensures { IsTrue result ↔ (17 + (2 + 64) + given_length self.now ≤ most_bytes) }
