@@ -1,5 +1,5 @@
 -- A challenge that is read is the one that was written.
-use Rattle.std.proofs.Common.{◌≡◌, ℕ, ◌^◌, ◌<◌, Bool, true, false, cond, List, [], ◌∷◌, ◌++◌, length, Some, Result, Ok, Err, refl, ap, subst, ◌∙◌}
+use Rattle.std.proofs.Common.{◌≡◌, ℕ, ◌^◌, ◌<◌, true, List, [], ◌∷◌, ◌++◌, length, Some, Result, Ok, refl, ap, ◌∙◌}
 use Rattle.std.specs.Int.{w8, w64, to_be_bytes}
 use Rattle.gate_base.specs.declared.name.Target.{Target}
 use Rattle.gate_base.specs.declared.seen.Method.{Method}
@@ -8,7 +8,7 @@ use Rattle.gate_base.specs.declared.sixteen.Sixteen.{Sixteen}
 use Rattle.gate_entries.specs.declared.entry.What.{What}
 use Rattle.gate_entries.specs.declared.entry.What.TheVariants.{Challenge}
 use Rattle.gate_entries.specs.declared.kind.Kind.TheVariants as kinds
-use Rattle.gate_entries.specs.Field.{counted, counted_at}
+use Rattle.gate_entries.specs.Field.{counted}
 use Rattle.gate_entries.specs.Target.{target_bytes}
 use Rattle.gate_entries.specs.Challenge.{method_number, methods, method_with, method_at, is_thumb_of, thumb_behind, thumb_at, challenge_bytes, IsChallenge, challenge_at}
 use Rattle.gate_entries.proofs.Fields.{IsBytes, as_made, Takes, takes_both, key_field, number64_field, bytes_field, step, step_again, IsField, one_of_field}

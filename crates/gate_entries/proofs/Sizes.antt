@@ -1,5 +1,5 @@
 -- How long spellings are.
-use Rattle.std.proofs.Common.{◌≡◌, ℕ, ◌+◌, ◌*◌, ◌^◌, ◌<◌, ◌≤◌, Bool, List, [], suc, ◌∷◌, ◌++◌, length, Option, Some, None, subst, refl, ap, ◌∙◌, arith, length-append}
+use Rattle.std.proofs.Common.{◌≡◌, ℕ, ◌+◌, ◌*◌, ◌^◌, ◌<◌, ◌≤◌, Bool, List, [], ◌∷◌, ◌++◌, length, Option, Some, None, subst, refl, ap, ◌∙◌, arith, length-append}
 use Rattle.std.specs.Prelude.{IfSome, option_map, sum_by}
 use Rattle.std.specs.List.{flat_map, AllByRecursion}
 use Rattle.std.specs.Int.{w8, w16, w32, w64, to_be_bytes}
@@ -35,7 +35,7 @@ use Rattle.gate_entries.specs.CaaAnswer.{row_bytes, answer_bytes, IsRow, IsAnswe
 use Rattle.gate_entries.specs.Numbered.{numbered_bytes}
 use Rattle.gate_entries.specs.Blocked.{blocked_bytes, IsBlocked}
 use Rattle.gate_entries.specs.Spelling.{what_bytes, entry_bytes, HasCaller, IsWhat, most_bytes, IsEntry}
-use Rattle.gate_entries.specs.Fits.{TargetFits, OrderFits, AnswersFit, FieldsFit, target_length, observed_length, answered_length, given_length, Fits}
+use Rattle.gate_entries.specs.Fits.{TargetFits, OrderFits, FieldsFit, target_length, observed_length, answered_length, given_length}
 use Rattle.gate_entries.specs.Command.{settings_entry, what_of, entry_with, entry_for, IsAskedOrder, IsAskedObservation, AreAskedAnswers, IsCommand, HasNames, IsCaller}
 use Rattle.gate_entries.proofs.Names.{text_size}
 

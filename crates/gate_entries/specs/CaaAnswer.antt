@@ -1,5 +1,5 @@
 -- The entry of CAA answers: key, order, target, when they were asked for, and the answers.
-use Rattle.std.specs.Prelude.{ℕ, zero, suc, ◌<◌, ◌^◌, List, [], ◌∷◌, ◌++◌, length, Result, Ok, Err}
+use Rattle.std.specs.Prelude.{ℕ, zero, suc, ◌<◌, ◌^◌, List, [], ◌∷◌, ◌++◌, length, Ok, Err}
 use Rattle.std.specs.Int.{w8, w16, w32, w64, to_be_bytes}
 use Rattle.gate_base.specs.declared.name.Target.{Target}
 use Rattle.gate_base.specs.declared.seen.CaaAnswer.{CaaAnswer}

@@ -1,5 +1,5 @@
 -- The entries of what is sent to the signer and of its signature: the order's number, and bytes.
-use Rattle.std.specs.Prelude.{ℕ, ◌<◌, ◌^◌, List, ◌++◌, length, Result, Ok}
+use Rattle.std.specs.Prelude.{ℕ, ◌<◌, ◌^◌, List, ◌++◌, length, Ok}
 use Rattle.std.specs.Int.{w16, w64, to_be_bytes}
 use Rattle.gate_entries.specs.declared.entry.What.{What}
 use Rattle.gate_entries.specs.declared.entry.What.TheVariants.{Send, Signed}

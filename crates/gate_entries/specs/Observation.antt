@@ -1,5 +1,5 @@
 -- An observation's entry: key, challenge, when it was seen, and what was seen in the DNS or on the website.
-use Rattle.std.specs.Prelude.{ℕ, suc, ◌<◌, ◌^◌, List, [], ◌∷◌, ◌++◌, length, Result, Ok, Err, ◌==◌, if◌then◌else◌}
+use Rattle.std.specs.Prelude.{ℕ, suc, ◌<◌, ◌^◌, List, [], ◌∷◌, ◌++◌, length, Ok, Err, ◌==◌, if◌then◌else◌}
 use Rattle.std.specs.Int.{w8, w16, w64, to_be_bytes}
 use Rattle.gate_base.specs.declared.seen.DnsSeen.{DnsSeen}
 use Rattle.gate_base.specs.declared.seen.Hop.{Hop}

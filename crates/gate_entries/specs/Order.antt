@@ -1,5 +1,5 @@
 -- An order's entry: key, common name or none, days, targets, request.
-use Rattle.std.specs.Prelude.{ℕ, ◌<◌, ◌^◌, List, ◌++◌, length, Bool, Result, Ok}
+use Rattle.std.specs.Prelude.{ℕ, ◌<◌, ◌^◌, List, ◌++◌, length, Bool, Ok}
 use Rattle.std.specs.Int.{w8, w16, to_be_bytes}
 use Rattle.gate_base.specs.declared.name.Target.{Target}
 use Rattle.gate_entries.specs.declared.entry.What.{What}
