@@ -1,5 +1,6 @@
 -- What is found among elements that all have a property has it.
-use Rattle.std.proofs.Common.{◌≡◌, Bool, true, false, cond, List, [], ◌∷◌, ◌++◌, reverse, Some, None, refl, subst, sym, reverse-append}
+use Rattle.std.proofs.Common.{◌≡◌, Bool, true, false, cond, List, [], ◌∷◌, ◌++◌, reverse, Some, None, refl, subst, sym}
+use Rattle.std.proofs.lemmas.List.{reverse-append}
 use Rattle.std.specs.List.{find, AllByRecursion}
 use Rattle.gate_entries.specs.declared.entry.Entry.{Entry}
 use Rattle.evidence_index.specs.Lookups.{find_last}

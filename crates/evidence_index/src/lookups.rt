@@ -1,6 +1,7 @@
 //! Look-ups in the list of entries.
 ghost use Rattle.std.specs.Prelude.{◌≡◌, Some, option_copied, IfOk};
 ghost use Rattle.std.specs.List.{find};
+ghost use Rattle.gate_settings.specs.Meaning.{IsReadable, settings_of};
 ghost use Rattle.evidence_index.specs.Lookups as spec;
 ghost use Rattle.evidence_index.specs.Lookups.{find_last};
 ghost use Rattle.evidence_index.specs.Noting.{AreSound, IsReadableIn};
@@ -8,7 +9,7 @@ ghost use Rattle.evidence_index.specs.Noting.{AreSound, IsReadableIn};
 use domain_methods::Challenge;
 use gate_base::{NoMemory, Plain};
 use gate_entries::{Entry, What};
-use gate_settings::{Settings, SettingsFault, read_settings};
+use gate_settings::{Settings, SettingsFault, one_settings, read_settings};
 use perspectives::{Panel, Perspective};
 use std::alloc::Global;
 
@@ -43,17 +44,26 @@ fn settings_entry(entries: &[Entry], number: u64) -> Option<&Entry>
         .find(|entry| is_settings_by(number, entry))
 }
 
+/// The settings that readable bytes say.
+fn settings_of(alloc: Global, bytes: &[u8]) -> Result<Settings, NoMemory>
+    requires { IsReadable bytes.now }
+    ensures { IfOk result (λ settings. settings_of bytes.now ≡ Some settings) }
+{
+    one_settings();
+    match read_settings(alloc, bytes) {
+        Ok(settings) => Ok(settings),
+        Err(SettingsFault::NoMemory) => Err(NoMemory),
+        Err(SettingsFault::Rule { .. }) => unreachable!(),
+    }
+}
+
 /// The settings that an entry says.
 fn settings_in(alloc: Global, what: &What) -> Result<Option<Settings>, NoMemory>
     requires { IsReadableIn what.now }
     ensures { IfOk result (λ settings. settings ≡ spec.settings_in what.now) }
 {
     match what {
-        What::Settings { bytes } => match read_settings(alloc, bytes.as_slice()) {
-            Ok(settings) => Ok(Some(settings)),
-            Err(SettingsFault::NoMemory) => Err(NoMemory),
-            Err(SettingsFault::Rule { .. }) => unreachable!(),
-        },
+        What::Settings { bytes } => Ok(Some(settings_of(alloc, bytes.as_slice())?)),
         _ => Ok(None),
     }
 }

@@ -1,5 +1,5 @@
 //! What the CAA records that the perspectives saw permit.
-ghost use Rattle.std.specs.Prelude.{◌≡◌, ◌<◌, ◌^◌, map, option_copied, IfOk};
+ghost use Rattle.std.specs.Prelude.{◌≡◌, ◌<◌, ◌^◌, map, option_copied, is_none, IfOk};
 ghost use Rattle.caa_climb.specs.Climb.{relevant_of};
 ghost use Rattle.evidence_index.specs.Caa as spec;
 ghost use Rattle.evidence_index.specs.Caa.{latest_caa};
@@ -204,8 +204,17 @@ fn perspective_why(
     }
 }
 
+/// Whether the latest answers of the perspective with this id permit issuance.
+fn permits(alloc: Global, entries: &[Entry], q: &Question<'_>, id: &[u8]) -> Result<bool, NoMemory>
+    requires { AreSound entries.now }
+    ensures { IfOk result (λ is. is ≡ is_none (spec.latest_why q.now.target.now q.now.name.now q.now.issuers.now q.now.moment.0
+        (latest_caa id.now q.now.order q.now.target.now entries.now))) }
+{
+    let why = perspective_why(alloc, entries, q, id)?;
+    Ok(why.is_none())
+}
+
 /// Of each member of the panel, whether its latest answers permit issuance.
-#[tactic(auto, using(crate::proofs::Members::members))]
 fn permitting(
     alloc: Global,
     entries: &[Entry],
@@ -218,8 +227,8 @@ fn permitting(
     let mut good = Vec::new(alloc);
     for place in 0..panel.len() {
         if let Some(member) = panel.member(place) {
-            let why = perspective_why(alloc, entries, q, member.id.as_slice())?;
-            good.push(why.is_none())?;
+            let is_good = permits(alloc, entries, q, member.id.as_slice())?;
+            good.push(is_good)?;
         }
     }
     Ok(good)

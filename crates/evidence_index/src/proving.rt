@@ -91,7 +91,6 @@ fn corroborates(
 }
 
 /// Of each member of the panel, whether it corroborates.
-#[tactic(auto, using(crate::proofs::Members::members))]
 fn corroborating(
     alloc: Global,
     entries: &[Entry],
