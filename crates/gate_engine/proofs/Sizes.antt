@@ -11,7 +11,8 @@ use Rattle.gate_machine.specs.Sends.{certificate_bytes}
 use Rattle.std.specs.Prelude.{sum_by}
 use Rattle.std.proofs.lemmas.List.Sums.{sum_by-cons}
 use Rattle.gate_entries.specs.declared.entry.Entry.{Entry}
-use Rattle.gate_entries.specs.Spelling.{counted, entry_bytes}
+use Rattle.gate_entries.specs.Field.{counted}
+use Rattle.gate_entries.specs.Spelling.{entry_bytes}
 use Rattle.gate_machine.specs.History.{journal_size}
 use Rattle.gate_engine.specs.Engine.{payloads_of}
 

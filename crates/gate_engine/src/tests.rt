@@ -1,6 +1,6 @@
 //! A table of commands, answered by an engine and by a list.
 ghost use Rattle.std.specs.Prelude.{◌≡◌, ◌<◌, ◌≤◌, ◌^◌, length};
-ghost use Rattle.gate_entries.specs.Spelling.{IsTarget, AreTargets};
+ghost use Rattle.gate_entries.specs.Target.{IsTarget, AreTargets};
 ghost use Rattle.gate_entries.specs.Command.{IsCommand, IsCaller};
 
 use super::*;

@@ -1,9 +1,13 @@
 pub mod Names
-pub mod Loop
 pub mod Pieces
-pub mod Sizes
 pub mod Fields
+pub mod Loop
 pub mod Targets
+pub mod Sizes
+pub mod KindFields
+pub mod OrderEntry
+pub mod ChallengeEntry
+pub mod ObservationEntry
+pub mod CaaEntry
+pub mod SmallEntries
 pub mod Entries
-pub mod Again
-pub mod One

@@ -12,8 +12,7 @@ use Rattle.names_core.specs.declared.fault.NameFault.{NameFault}
 use Rattle.names_core.specs.declared.fault.NameFault.TheVariants.{Empty, LongLabel, LongName}
 use Rattle.names_core.specs.Name.{labels_break, labels_of, name_of, name_read, unless}
 use Rattle.names_core.specs.Target.{name_text}
-use Rattle.gate_entries.specs.Spelling.{labels_text, IsTarget}
-use Rattle.gate_entries.specs.Reading.{if_its_text, name_with, as_said, name_behind}
+use Rattle.gate_entries.specs.Target.{labels_text, IsTarget, if_its_text, name_with, as_said, name_behind}
 
 -- ---- how long a name's text is
 

@@ -1,22 +1,15 @@
--- Names, addresses and targets that are read are those that were written.
-use Rattle.std.proofs.Common.{◌≡◌, ℕ, zero, suc, ◌^◌, Bool, true, false, cond, eqb, List, [], ◌∷◌, length, Option, Some, None, Result, Ok, Err, refl, sym, ap, subst, ◌⊎◌, inl, inr}
-use Rattle.std.specs.List.{flat_map, AllByRecursion}
+-- Names, addresses and targets that are read are those that were written, and what was written is read again.
+use Rattle.std.proofs.Common.{◌≡◌, ℕ, suc, ◌^◌, Bool, true, false, cond, eqb, List, [], ◌∷◌, ◌++◌, length, Option, Some, None, Result, Ok, Err, refl, sym, ap, subst, arith, inl, inr}
 use Rattle.std.specs.Int.{w8}
 use Rattle.std.proofs.lemmas.Bool.{eqb-true}
-use Rattle.std.proofs.lemmas.List.Concat.{flat_map-cons}
 use Rattle.gate_base.specs.declared.name.Address.TheVariants.{V4, V6}
 use Rattle.gate_base.specs.declared.name.Name.{Name}
 use Rattle.gate_base.specs.declared.name.Target.{Target}
 use Rattle.gate_base.specs.declared.name.Target.TheVariants.{Dns, Ip}
-use Rattle.gate_entries.specs.Spelling.{counted, truth, labels_text, target_bytes, IsTarget}
-use Rattle.gate_entries.specs.Reading.{bytes_at, counted_at, truth_at, name_behind, target_or, text_at, name_at, v4_at, v6_at, target_at, targets_at}
-use Rattle.gate_entries.proofs.Names.{IsSaid, name_behind-found}
-use Rattle.gate_entries.proofs.Fields.{IsBytes, IsBytes-rest, bind_ok, ok_is, as_made, Takes, takes_both, takes_behind, bytes_takes, wide8, counted_takes, truth_takes}
-
--- which way a test went
-pub chosen : {A : Type 0} (b : Bool) (x y z : A) → cond b x y ≡ z → ((b ≡ true) × (x ≡ z)) ⊎ ((b ≡ false) × (y ≡ z))
-chosen true x y z e = inl (refl, e)
-chosen false x y z e = inr (refl, e)
+use Rattle.gate_entries.specs.Field.{counted, truth, bytes_at, counted_at, truth_at}
+use Rattle.gate_entries.specs.Target.{labels_text, target_bytes, IsTarget, name_behind, target_or, text_at, name_at, v4_at, v6_at, target_at}
+use Rattle.gate_entries.proofs.Names.{IsSaid, text_size, name_behind-text, name_behind-found}
+use Rattle.gate_entries.proofs.Fields.{IsBytes, IsBytes-rest, bind_ok, bind_is, ok_is, as_made, Takes, takes_both, takes_behind, bytes_takes, bytes_again, wide8, counted_takes, counted_again, truth_takes, truth_again, IsField, chosen}
 
 pub only_met : {A : Type 0} (b : Bool) (left : ℕ) (r : Result A ℕ) (y : A) → cond b r (Err left) ≡ Ok y → (b ≡ true) × (r ≡ Ok y)
 only_met true left r y e = (refl, e)
@@ -91,18 +84,26 @@ target_takes (kind ∷ bytes) x small e =
       ]
     ]
 
-pub targets_take : (count : ℕ) (bytes : List ℕ) (x : List Target × List ℕ) → IsBytes bytes → targets_at count bytes ≡ Ok x
-    → Takes bytes (flat_map target_bytes x.0) x.1 × (length x.0 ≡ count) × AllByRecursion IsTarget x.0
-unfolding targets_at
-targets_take zero bytes x small e =
-    as_made (λ (y : List Target × List ℕ). Takes bytes (flat_map target_bytes y.0) y.1 × (length y.0 ≡ 0) × AllByRecursion IsTarget y.0) ([], bytes) x e
-    (record { parts = refl; small = small }, refl, tt)
-targets_take (suc count) bytes x small e =
-    let a = bind_ok (target_at bytes) _ x e in
-    let b = bind_ok (targets_at count a.0.1) _ x a.2 in
-    let first = target_takes bytes a.0 small a.1 in
-    let second = targets_take count a.0.1 b.0 first.0.small b.1 in
-    let both = takes_both first.0 second.0 in
-    let made : List Target × List ℕ = (a.0.0 ∷ b.0.0, b.0.1) in
-    as_made (λ (y : List Target × List ℕ). Takes bytes (flat_map target_bytes y.0) y.1 × (length y.0 ≡ suc count) × AllByRecursion IsTarget y.0) made x b.2
-    (rw flat_map-cons both, ap suc second.1, (first.1, second.2))
+-- ---- and read again
+
+text_again : (name : Name) (rest : List ℕ) → IsTarget (Dns name) → text_at name.wild (counted w8 (labels_text name.labels) ++ rest) ≡ Ok (Dns name, rest)
+unfolding text_at
+text_again name rest is =
+    let text = labels_text name.labels in
+    bind_is (counted_at w8 (counted w8 text ++ rest)) (text, rest) _ (Ok (Dns name, rest)) (counted_again w8 (2 ^ 8) wide8 text rest (omega (arith, text_size name is)))
+    (ap (target_or (length (counted w8 text ++ rest)) rest) (name_behind-text name is))
+
+name_again : (name : Name) (rest : List ℕ) → IsTarget (Dns name) → name_at ((truth name.wild ++ counted w8 (labels_text name.labels)) ++ rest) ≡ Ok (Dns name, rest)
+unfolding name_at
+name_again name rest is =
+    bind_is (truth_at (truth name.wild ++ (counted w8 (labels_text name.labels) ++ rest))) (name.wild, counted w8 (labels_text name.labels) ++ rest) _ (Ok (Dns name, rest))
+    (truth_again name.wild (counted w8 (labels_text name.labels) ++ rest)) (text_again name rest is)
+
+target_again : (target : Target) (rest : List ℕ) → IsTarget target → target_at (target_bytes target ++ rest) ≡ Ok (target, rest)
+unfolding target_at v4_at v6_at
+target_again (Dns name) rest is = name_again name rest is
+target_again (Ip (V4 octets)) rest is = bind_is (bytes_at 4 (octets ++ rest)) (octets, rest) _ (Ok (Ip (V4 octets), rest)) (bytes_again 4 octets rest is) refl
+target_again (Ip (V6 octets)) rest is = bind_is (bytes_at 16 (octets ++ rest)) (octets, rest) _ (Ok (Ip (V6 octets), rest)) (bytes_again 16 octets rest is) refl
+
+pub target_field : IsField target_bytes IsTarget target_at
+target_field = record { takes = target_takes; again = target_again }

@@ -1,3 +1,12 @@
+pub mod Field
+pub mod Target
+pub mod Kind
+pub mod Order
+pub mod Challenge
+pub mod Observation
+pub mod CaaAnswer
+pub mod Numbered
+pub mod Blocked
 pub mod Spelling
 pub mod Reading
 pub mod Command

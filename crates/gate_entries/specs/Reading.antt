@@ -1,169 +1,46 @@
--- Reading an entry from left to right, with the first field that is cut off or breaks a rule. While fields are read, a fault is
--- the number of bytes that were left where its field began.
-use Rattle.std.specs.Prelude.{◌≡◌, ℕ, zero, suc, ◌-◌, ◌≤◌, List, [], ◌∷◌, ◌++◌, length, take, drop, codes, bytes_eq, Bool, true, false, Option, Some, None, Result, Ok, Err, nat_lt, ◌==◌, ◌&&◌, ◌||◌, if◌then◌else◌}
-use Rattle.std.specs.Int.{Width, w8, w16, w32, w64, byte_len, from_be_bytes}
-use Rattle.gate_base.specs.declared.name.Address.TheVariants.{V4, V6}
-use Rattle.gate_base.specs.declared.name.Name.{Name}
-use Rattle.gate_base.specs.declared.name.Target.{Target}
-use Rattle.gate_base.specs.declared.name.Target.TheVariants.{Dns, Ip}
-use Rattle.names_core.specs.declared.fault.NameFault.{NameFault}
-use Rattle.names_core.specs.Name.{name_read}
-use Rattle.names_core.specs.Target.{name_text}
+-- Reading an entry from left to right, with the first field that is cut off or breaks a rule.
+use Rattle.std.specs.Prelude.{◌≡◌, ℕ, ◌-◌, List, length, Bool, true, Result, Ok, Err, nat_lt, ◌==◌, if◌then◌else◌}
+use Rattle.std.specs.Int.{w16, w32, w64}
 use Rattle.gate_entries.specs.declared.entry.Entry.{Entry}
 use Rattle.gate_entries.specs.declared.entry.What.{What}
-use Rattle.gate_entries.specs.declared.entry.What.TheVariants.{Settings, Order, Send, Signed, Blocked}
+use Rattle.gate_entries.specs.declared.entry.What.TheVariants as whats
 use Rattle.gate_entries.specs.declared.fault.EntryRead.{EntryRead}
 use Rattle.gate_entries.specs.declared.fault.EntryRead.TheVariants as reads
-use Rattle.gate_entries.specs.declared.fault.FieldFault.{FieldFault}
-use Rattle.gate_entries.specs.declared.fault.FieldFault.TheVariants as fields
+use Rattle.gate_entries.specs.declared.kind.Kind.{Kind}
+use Rattle.gate_entries.specs.declared.kind.Kind.TheVariants.{Settings, Order, Challenge, Observation, CaaAnswer, Send, Signed, Blocked}
+use Rattle.gate_entries.specs.Field.{◌>>=◌, Read, number_at, counted_at}
+use Rattle.gate_entries.specs.Kind.{kind_at}
+use Rattle.gate_entries.specs.Order.{order_at}
+use Rattle.gate_entries.specs.Challenge.{challenge_at}
+use Rattle.gate_entries.specs.Observation.{observation_at}
+use Rattle.gate_entries.specs.CaaAnswer.{caa_at}
+use Rattle.gate_entries.specs.Numbered.{send_at, signed_at}
+use Rattle.gate_entries.specs.Blocked.{blocked_at}
 use Rattle.gate_entries.specs.Spelling.{most_bytes}
 
-infixl 10 ◌>>=◌
-abbrev pub ◌>>=◌ : {A B : Type 0} → Result A ℕ → (A → Result B ℕ) → Result B ℕ
-(Ok x) >>= f = f x
-(Err left) >>= f = Err left
-
--- a field's value, and the bytes behind it
-abbrev pub Read : Type 0 → Type 0
-Read A = Result (A × List ℕ) ℕ
-
--- what a reader answered is what reading gives, unless memory ran out
-abbrev pub Fails : {Y : Type 0} → FieldFault → Result Y ℕ → Type 0
-Fails fields.NoMemory read = Unit {0}
-Fails (fields.Left left) read = read ≡ Err left
-
-abbrev pub Gives : {X Y : Type 0} → (X → Y) → Result X FieldFault → Result Y ℕ → Type 0
-Gives view (Ok x) read = read ≡ Ok (view x)
-Gives view (Err fault) read = Fails fault read
-
--- the rest is no longer than the bytes, and a faulty field begins within them
-abbrev pub Within : {X : Type 0} → (X → List ℕ) → List ℕ → Result X FieldFault → Type 0
-Within rest bytes (Ok x) = length (rest x) ≤ length bytes
-Within rest bytes (Err fields.NoMemory) = Unit {0}
-Within rest bytes (Err (fields.Left left)) = left ≤ length bytes
-
--- so many bytes
-abbrev pub bytes_at : ℕ → List ℕ → Read (List ℕ)
-bytes_at count bytes = if nat_lt (length bytes) count then Err (length bytes) else Ok (take count bytes, drop count bytes)
-
-abbrev pub number_at : Width → List ℕ → Read ℕ
-number_at width bytes =
-    if nat_lt (length bytes) (byte_len width) then Err (length bytes) else Ok (from_be_bytes width (take (byte_len width) bytes), drop (byte_len width) bytes)
-
--- a number of bytes and the bytes are one field
-abbrev pub bytes_behind : ℕ → ℕ × List ℕ → Read (List ℕ)
-bytes_behind left count = if nat_lt (length count.1) count.0 then Err left else Ok (take count.0 count.1, drop count.0 count.1)
-
-unfoldable pub counted_at : Width → List ℕ → Read (List ℕ)
-counted_at width bytes = number_at width bytes >>= bytes_behind (length bytes)
-
-unfoldable pub truth_at : List ℕ → Read Bool
-truth_at [] = Err 0
-truth_at (zero ∷ rest) = Ok (false, rest)
-truth_at (suc zero ∷ rest) = Ok (true, rest)
-truth_at (suc (suc value) ∷ rest) = Err (suc (length rest))
-
--- ---- names
-
--- the name that was read, where the text is its one text
-abbrev pub if_its_text : List ℕ → Result Name NameFault → Option Name
-if_its_text text (Ok name) = if bytes_eq (name_text name) text then Some name else None
-if_its_text text (Err fault) = None
-
--- the name whose one text this is
-unfoldable pub name_with : List ℕ → Option Name
-name_with text = if_its_text text (name_read text)
-
--- the name, where it is a wildcard or none as was said
-abbrev pub as_said : Bool → Option Name → Option Name
-as_said true (Some name) = if name.wild then Some name else None
-as_said false (Some name) = if name.wild then None else Some name
-as_said wild None = None
-
--- the name that has this text, behind `*.` where it is a wildcard
-unfoldable pub name_behind : Bool → List ℕ → Option Name
-name_behind wild text = as_said wild (name_with ((if wild then codes "*." else []) ++ text))
-
-abbrev pub target_or : ℕ → List ℕ → Option Name → Read Target
-target_or left rest (Some name) = Ok (Dns name, rest)
-target_or left rest None = Err left
-
-unfoldable pub text_at : Bool → List ℕ → Read Target
-text_at wild bytes = counted_at w8 bytes >>= λ text. target_or (length bytes) text.1 (name_behind wild text.0)
-
-unfoldable pub name_at : List ℕ → Read Target
-name_at bytes = truth_at bytes >>= λ wild. text_at wild.0 wild.1
-
--- ---- addresses, and targets of each kind
-
-unfoldable pub v4_at : List ℕ → Read Target
-v4_at bytes = bytes_at 4 bytes >>= λ octets. Ok (Ip (V4 octets.0), octets.1)
-
-unfoldable pub v6_at : List ℕ → Read Target
-v6_at bytes = bytes_at 16 bytes >>= λ octets. Ok (Ip (V6 octets.0), octets.1)
-
-unfoldable pub target_at : List ℕ → Read Target
-target_at [] = Err 0
-target_at (kind ∷ rest) =
-    if kind == 1 then name_at rest else if kind == 2 then v4_at rest else if kind == 3 then v6_at rest else Err (suc (length rest))
-
-unfoldable pub targets_at : ℕ → List ℕ → Read (List Target)
-targets_at zero bytes = Ok ([], bytes)
-targets_at (suc count) bytes = do
-  first ← target_at bytes
-  others ← targets_at count first.1
-  Ok (first.0 ∷ others.0, others.1)
-
-unfoldable pub order_at : List ℕ → Read What
-order_at bytes = do
-  key ← counted_at w8 bytes
-  common ← truth_at key.1
-  days ← number_at w16 common.1
-  count ← number_at w8 days.1
-  targets ← targets_at count.0 count.1
-  request ← counted_at w16 targets.1
-  Ok (Order key.0 common.0 days.0 targets.0 request.0, request.1)
-
 unfoldable pub settings_at : List ℕ → Read What
-settings_at bytes = counted_at w32 bytes >>= λ settings. Ok (Settings settings.0, settings.1)
+settings_at bytes = counted_at w32 bytes >>= λ settings. Ok (whats.Settings settings.0, settings.1)
 
-unfoldable pub send_at : List ℕ → Read What
-send_at bytes = do
-  order ← number_at w64 bytes
-  body ← counted_at w16 order.1
-  Ok (Send order.0 body.0, body.1)
-
-unfoldable pub signed_at : List ℕ → Read What
-signed_at bytes = do
-  order ← number_at w64 bytes
-  signature ← counted_at w16 order.1
-  Ok (Signed order.0 signature.0, signature.1)
-
-unfoldable pub blocked_at : List ℕ → Read What
-blocked_at bytes = do
-  key ← counted_at w8 bytes
-  spki ← counted_at w16 key.1
-  Ok (Blocked key.0 spki.0, spki.1)
-
--- the fields of a kind; no other kind is known
-unfoldable pub what_at : ℕ → List ℕ → Read What
-what_at kind bytes =
-    if kind == 1 then settings_at bytes else if kind == 6 then send_at bytes else if kind == 7 then signed_at bytes else if kind == 8 then blocked_at bytes
-    else order_at bytes
-
--- the kind, of those that are known
-abbrev pub is_kind : ℕ → Bool
-is_kind kind = kind == 1 || kind == 2 || kind == 6 || kind == 7 || kind == 8
-
-unfoldable pub kind_at : List ℕ → Read ℕ
-kind_at [] = Err 0
-kind_at (kind ∷ rest) = if is_kind kind then Ok (kind, rest) else Err (suc (length rest))
+-- the fields of a kind
+unfoldable pub what_at : Kind → List ℕ → Read What
+what_at Settings bytes = settings_at bytes
+what_at Order bytes = order_at bytes
+what_at Challenge bytes = challenge_at bytes
+what_at Observation bytes = observation_at bytes
+what_at CaaAnswer bytes = caa_at bytes
+what_at Send bytes = send_at bytes
+what_at Signed bytes = signed_at bytes
+what_at Blocked bytes = blocked_at bytes
 
 -- the caller, who is nobody for settings
-abbrev pub caller_behind : ℕ → ℕ → List ℕ × List ℕ → Read (List ℕ)
-caller_behind kind left caller = if kind == 1 && nat_lt 0 (length caller.0) then Err left else Ok caller
+abbrev pub is_caller_of : Kind → List ℕ → Bool
+is_caller_of Settings caller = length caller == 0
+is_caller_of kind caller = true
 
-unfoldable pub caller_at : ℕ → List ℕ → Read (List ℕ)
+abbrev pub caller_behind : Kind → ℕ → List ℕ × List ℕ → Read (List ℕ)
+caller_behind kind left caller = if is_caller_of kind caller.0 then Ok caller else Err left
+
+unfoldable pub caller_at : Kind → List ℕ → Read (List ℕ)
 caller_at kind bytes = counted_at w16 bytes >>= caller_behind kind (length bytes)
 
 unfoldable pub fields_at : List ℕ → Read Entry

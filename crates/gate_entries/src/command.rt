@@ -2,9 +2,12 @@ ghost use Rattle.std.specs.Prelude.{◌≡◌, IfOk, IfSome};
 ghost use Rattle.gate_entries.specs.Spelling.{IsWhat, IsEntry};
 ghost use Rattle.gate_entries.specs.Command.{what_of, entry_for, may_ask, IsCommand, IsCaller};
 
+use crate::caa_answer::copied_caa;
 use crate::caller::Caller;
 use crate::entry::{Entry, What};
-use gate_base::{Bytes, Moment, NoMemory, Plain, Role, Targets};
+use crate::observation::copied_observation;
+use crate::order::copied_order;
+use gate_base::{Bytes, CaaSeen, Method, Moment, NoMemory, Plain, Role, Seen, Target, Targets};
 use std::alloc::Global;
 
 /// What a caller asks.
@@ -22,6 +25,36 @@ pub enum Command {
         /// The certificate request (RFC 2986), as DER.
         request: Bytes,
     },
+    /// A random value by whose publication the account shows that it controls a target.
+    Challenge {
+        /// The caller's retry key.
+        key: Bytes,
+        /// The order's number.
+        order: u64,
+        target: Target,
+        method: Method,
+    },
+    /// That what a perspective saw of a challenge be kept.
+    Observe {
+        /// The caller's retry key.
+        key: Bytes,
+        /// The challenge's number.
+        challenge: u64,
+        /// When it was seen, in seconds since 1970-01-01T00:00:00Z.
+        seen_at: u64,
+        seen: Seen,
+    },
+    /// That the CAA records which a perspective found for a target be kept (RFC 8659).
+    ObserveCaa {
+        /// The caller's retry key.
+        key: Bytes,
+        /// The order's number.
+        order: u64,
+        target: Target,
+        /// When they were asked for, in seconds since 1970-01-01T00:00:00Z.
+        seen_at: u64,
+        caa: CaaSeen,
+    },
     /// That an order's certificate be signed, or told again.
     Finalize {
         /// The order's number.
@@ -37,12 +70,16 @@ pub enum Command {
 }
 
 impl Command {
-    /// Whether a role has the command: an account may order and finalize, an operator may block.
+    /// Whether a role has the command: an account may order, ask for a challenge and finalize, a perspective may tell what
+    /// it saw, and an operator may block.
     pub fn allowed(&self, role: Role) -> bool
         ensures { result ≡ may_ask role self.now }
     {
         match self {
-            Command::Order { .. } | Command::Finalize { .. } => role == Role::Account,
+            Command::Order { .. } | Command::Challenge { .. } | Command::Finalize { .. } => {
+                role == Role::Account
+            }
+            Command::Observe { .. } | Command::ObserveCaa { .. } => role == Role::Perspective,
             Command::Block { .. } => role == Role::Operator,
         }
     }
@@ -89,31 +126,39 @@ impl Command {
     }
 
     /// What the command's entry says, where the command says all of it.
-    #[tactic(auto, using(crate::proofs::Sizes::ordered))]
+    #[tactic(auto, using(crate::proofs::Sizes::ordered, crate::proofs::Sizes::observed, crate::proofs::Sizes::answered))]
     fn what(&self, alloc: Global) -> Result<Option<What>, NoMemory>
         requires { IsCommand self.now }
         ensures what { IfOk result (λ what. what ≡ what_of self.now) }
         ensures spelled { IfOk result (λ what. IfSome what IsWhat) }
     {
-        match self {
+        let what = match self {
             Command::Order {
                 key,
                 targets,
                 days,
                 common,
                 request,
-            } => Ok(Some(What::Order {
-                key: key.copied(alloc)?,
-                common: *common,
-                days: *days,
-                targets: targets.copied(alloc)?,
-                request: request.copied(alloc)?,
-            })),
-            Command::Finalize { .. } => Ok(None),
-            Command::Block { key, spki } => Ok(Some(What::Blocked {
+            } => copied_order(alloc, key, *common, *days, targets, request)?,
+            Command::Observe {
+                key,
+                challenge,
+                seen_at,
+                seen,
+            } => copied_observation(alloc, key, *challenge, *seen_at, seen)?,
+            Command::ObserveCaa {
+                key,
+                order,
+                target,
+                seen_at,
+                caa,
+            } => copied_caa(alloc, key, *order, target, *seen_at, caa)?,
+            Command::Block { key, spki } => What::Blocked {
                 key: key.copied(alloc)?,
                 spki: spki.copied(alloc)?,
-            })),
-        }
+            },
+            Command::Challenge { .. } | Command::Finalize { .. } => return Ok(None),
+        };
+        Ok(Some(what))
     }
 }

@@ -3,7 +3,7 @@ ghost use Rattle.std.specs.Option.{option_copied};
 ghost use Rattle.gate_entries.specs.Command.{key_of};
 
 use crate::caller::Caller;
-use gate_base::{Bytes, Moment, NoMemory, Plain, Targets};
+use gate_base::{Bytes, CaaSeen, Method, Moment, NoMemory, Plain, Seen, Sixteen, Target, Targets};
 use std::alloc::Global;
 
 /// One entry of the journal.
@@ -32,6 +32,32 @@ pub enum What {
         targets: Targets,
         request: Bytes,
     },
+    /// A random value was drawn for a target of an order. It has to be seen where the method says, before the target is
+    /// certified.
+    Challenge {
+        key: Bytes,
+        order: u64,
+        method: Method,
+        target: Target,
+        value: Sixteen,
+        /// The thumbprint of the account's key (RFC 7638); empty but for `AcmeHttp`.
+        thumb: Bytes,
+    },
+    /// A perspective tells what it saw of a challenge; the fields are those of the command.
+    Observation {
+        key: Bytes,
+        challenge: u64,
+        seen_at: u64,
+        seen: Seen,
+    },
+    /// A perspective tells how its questions for CAA records were answered; the fields are those of the command.
+    CaaAnswer {
+        key: Bytes,
+        order: u64,
+        target: Target,
+        seen_at: u64,
+        answers: CaaSeen,
+    },
     /// A body is sent to the signer for the order with that number; recorded before it is sent.
     Send {
         order: u64,
@@ -55,7 +81,11 @@ impl What {
         ensures { option_copied result ≡ key_of self.now }
     {
         match self {
-            What::Order { key, .. } | What::Blocked { key, .. } => Some(key),
+            What::Order { key, .. }
+            | What::Challenge { key, .. }
+            | What::Observation { key, .. }
+            | What::CaaAnswer { key, .. }
+            | What::Blocked { key, .. } => Some(key),
             What::Settings { .. } | What::Send { .. } | What::Signed { .. } => None,
         }
     }

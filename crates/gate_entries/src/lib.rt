@@ -1,18 +1,30 @@
 //! What callers ask, what the journal keeps of it, and what they are answered.
 #![tactic(auto)]
 
+mod blocked;
+mod caa;
+mod caa_answer;
 mod caller;
+mod challenge;
 mod command;
 mod entry;
 mod fault;
+mod field;
 mod fits;
+mod kind;
 mod law;
 mod length;
+mod list;
 mod naming;
+mod numbered;
+mod observation;
+mod order;
 mod plain;
 mod reading;
 mod reply;
 mod room;
+mod seen;
+mod target;
 mod writing;
 
 pub use caller::Caller;

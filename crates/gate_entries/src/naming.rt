@@ -3,8 +3,8 @@ ghost use Rattle.std.specs.Prelude.{◌≡◌, ◌≢◌, ◌++◌, true, false,
 ghost use Rattle.gate_base.specs.declared.name.Name.{Name as NameValue};
 ghost use Rattle.gate_base.specs.declared.name.Target.TheVariants.{Dns};
 ghost use Rattle.names_core.specs.Target.{name_text};
-ghost use Rattle.gate_entries.specs.Spelling.{IsTarget};
-ghost use Rattle.gate_entries.specs.Reading.{if_its_text, name_with, as_said, name_behind};
+ghost use Rattle.gate_entries.specs.Target.{IsTarget};
+ghost use Rattle.gate_entries.specs.Target.{if_its_text, name_with, as_said, name_behind};
 
 use gate_base::{Name, NoMemory, Target};
 use names_core::{NameRead, read_name, target_text};
@@ -21,7 +21,7 @@ pub fn read_name_text(alloc: Global, text: &[u8]) -> Result<Option<Name>, NoMemo
     Ok(found)
 }
 
-#[tactic(auto, unfolding(crate::specs::Reading::name_with))]
+#[tactic(auto, unfolding(crate::specs::Target::name_with))]
 fn find_name(alloc: Global, text: &[u8]) -> Result<Option<Name>, NoMemory>
     ensures { IfOk result (λ found. found ≡ name_with text.now) }
 {
@@ -49,7 +49,7 @@ fn if_its_text(alloc: Global, name: Name, text: &[u8]) -> Result<Option<Name>, N
 }
 
 /// The name that has this text, behind `*.` where it is a wildcard.
-#[tactic(auto, unfolding(crate::specs::Reading::name_behind))]
+#[tactic(auto, unfolding(crate::specs::Target::name_behind))]
 pub fn name_behind(alloc: Global, wild: bool, text: &[u8]) -> Result<Option<Name>, NoMemory>
     ensures { IfOk result (λ found. found ≡ name_behind wild text.now) }
 {

@@ -1,57 +1,52 @@
 //! Entries as plain values.
+ghost use Rattle.std.specs.Prelude.{◌≡◌, ◌↔◌, IsTrue};
+ghost use Rattle.gate_entries.specs.declared.entry.What.TheVariants.{Settings};
 
+use crate::blocked::is_blocked;
+use crate::caa_answer::{copied_caa, is_caa};
+use crate::challenge::{copied_challenge, is_challenge};
 use crate::entry::{Entry, What};
-use gate_base::{NoMemory, Plain};
+use crate::numbered::{is_send, is_signed};
+use crate::observation::{copied_observation, is_observation};
+use crate::order::{copied_order, is_order};
+use gate_base::{Bytes, NoMemory, Plain};
 use std::alloc::Global;
 
 impl Plain for What {
     fn is_same(&self, other: &What) -> bool {
-        match (self, other) {
-            (What::Settings { bytes }, What::Settings { bytes: others }) => bytes.is_same(others),
-            (
-                What::Order {
-                    key,
-                    common,
-                    days,
-                    targets,
-                    request,
-                },
-                What::Order {
-                    key: other_key,
-                    common: other_common,
-                    days: other_days,
-                    targets: other_targets,
-                    request: other_request,
-                },
-            ) => {
-                days == other_days
-                    && common == other_common
-                    && key.is_same(other_key)
-                    && targets.is_same(other_targets)
-                    && request.is_same(other_request)
-            }
-            (
-                What::Send { order, body },
-                What::Send {
-                    order: other_order,
-                    body: other_body,
-                },
-            ) => order == other_order && body.is_same(other_body),
-            (
-                What::Signed { order, signature },
-                What::Signed {
-                    order: other_order,
-                    signature: other_signature,
-                },
-            ) => order == other_order && signature.is_same(other_signature),
-            (
-                What::Blocked { key, spki },
-                What::Blocked {
-                    key: other_key,
-                    spki: other_spki,
-                },
-            ) => key.is_same(other_key) && spki.is_same(other_spki),
-            (_, _) => false,
+        match self {
+            What::Settings { bytes } => are_settings(other, bytes),
+            What::Order {
+                key,
+                common,
+                days,
+                targets,
+                request,
+            } => is_order(other, key, *common, *days, targets, request),
+            What::Challenge {
+                key,
+                order,
+                method,
+                target,
+                value,
+                thumb,
+            } => is_challenge(other, key, *order, *method, target, *value, thumb),
+            What::Observation {
+                key,
+                challenge,
+                seen_at,
+                seen,
+            } => is_observation(other, key, *challenge, *seen_at, seen),
+            What::CaaAnswer {
+                key,
+                order,
+                target,
+                seen_at,
+                answers,
+            } => is_caa(other, key, *order, target, *seen_at, answers),
+            What::Send { order, body } => is_send(other, *order, body),
+            What::Signed { order, signature } => is_signed(other, *order, signature),
+            What::Blocked { key, spki } => is_blocked(other, key, spki),
         }
     }
 
@@ -66,13 +61,28 @@ impl Plain for What {
                 days,
                 targets,
                 request,
-            } => Ok(What::Order {
-                key: key.copied(alloc)?,
-                common: *common,
-                days: *days,
-                targets: targets.copied(alloc)?,
-                request: request.copied(alloc)?,
-            }),
+            } => copied_order(alloc, key, *common, *days, targets, request),
+            What::Challenge {
+                key,
+                order,
+                method,
+                target,
+                value,
+                thumb,
+            } => copied_challenge(alloc, key, *order, *method, target, *value, thumb),
+            What::Observation {
+                key,
+                challenge,
+                seen_at,
+                seen,
+            } => copied_observation(alloc, key, *challenge, *seen_at, seen),
+            What::CaaAnswer {
+                key,
+                order,
+                target,
+                seen_at,
+                answers,
+            } => copied_caa(alloc, key, *order, target, *seen_at, answers),
             What::Send { order, body } => Ok(What::Send {
                 order: *order,
                 body: body.copied(alloc)?,
@@ -86,6 +96,16 @@ impl Plain for What {
                 spki: spki.copied(alloc)?,
             }),
         }
+    }
+}
+
+/// Whether what an entry says are these settings.
+fn are_settings(what: &What, bytes: &Bytes) -> bool
+    ensures { IsTrue result ↔ (Settings bytes.now ≡ what.now) }
+{
+    match what {
+        What::Settings { bytes: other_bytes } => bytes.is_same(other_bytes),
+        _ => false,
     }
 }
 

@@ -1,7 +1,8 @@
 //! A signature's entry, spelled into the room that was made for it.
 ghost use Rattle.std.specs.Prelude.{◌≡◌, ◌+◌, ◌<◌, ◌≤◌, ◌^◌, [], ◌∷◌, ◌++◌, length, vec_len, vec_capacity, IsOk, OnOk};
 ghost use Rattle.std.specs.Int.{w16, w64, to_be_bytes};
-ghost use Rattle.gate_entries.specs.Spelling.{counted, entry_bytes};
+ghost use Rattle.gate_entries.specs.Field.{counted};
+ghost use Rattle.gate_entries.specs.Spelling.{entry_bytes};
 ghost use Rattle.gate_entries.specs.Command.{entry_with};
 
 use crate::entry::What;

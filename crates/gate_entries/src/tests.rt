@@ -1,7 +1,13 @@
 ghost use Rattle.gate_entries.specs.Spelling.{IsEntry};
 
+mod spelled;
+
 use super::*;
-use gate_base::{Bytes, Labels, NoMemory, Target, Targets};
+use gate_base::{
+    Address, ByteLists, Bytes, CaaAnswer, CaaAnswers, CaaRow, CaaRows, CaaSeen, DnsSeen, Hop,
+    Labels, Method, NoMemory, Seen, Sequence, Target, Targets,
+};
+use spelled::{ACME, CAA, KIND_CHANGES, SPELLED, WEB};
 use std::alloc::Global;
 
 /// The first entry: settings without bytes, at moment 1790000000.
@@ -46,7 +52,7 @@ const FIELDS: &[(usize, usize)] = &[
 /// A place in the order, the byte that is put there, and the place that is told.
 const CHANGES: &[(usize, u8, u64)] = &[
     // an unknown kind
-    (0, 3, 0),
+    (0, 9, 0),
     // settings with a caller
     (0, 1, 17),
     // a truth value of 2
@@ -261,6 +267,187 @@ fn zeros(alloc: Global, size: usize) -> Bytes {
     Bytes::from_vec(bytes)
 }
 
+/// What is told of the bytes, cut after so many of them.
+fn cut_after(alloc: Global, bytes: &[u8], size: usize) -> Option<u64> {
+    told(alloc, bytes.get(..size)?)
+}
+
+/// Where the field begins that lies at a place.
+fn field_at(starts: &[usize], place: usize) -> Option<u64> {
+    let mut found = None;
+    for start in starts {
+        if *start <= place {
+            found = Some(*start as u64);
+        }
+    }
+    found
+}
+
+/// What is told of the bytes with one of them changed.
+fn changed_in(alloc: Global, bytes: &[u8], index: usize, byte: u8) -> Option<u64> {
+    let Ok(mut changed) = Vec::from_slice(alloc, bytes) else {
+        return Some(NO_MEMORY);
+    };
+    if let Some(found) = changed.get_mut(index) {
+        *found = byte;
+    }
+    told(alloc, &changed)
+}
+
+/// Whether it is the challenge of account `a` for the order 2 on 192.0.3.7, with its value and thumbprint.
+fn is_acme(alloc: Global) -> bool {
+    match read_entry(alloc, ACME) {
+        Ok(entry) => match &entry.what {
+            What::Challenge {
+                order,
+                method,
+                target,
+                value,
+                thumb,
+                ..
+            } => {
+                *order == 2
+                    && *method == Method::AcmeHttp
+                    && is_address(target)
+                    && value.0[15] == 15
+                    && thumb.len() == 43
+            }
+            _ => false,
+        },
+        Err(_) => false,
+    }
+}
+
+fn is_address(target: &Target) -> bool {
+    match target {
+        Target::Ip(Address::V4(octets)) => *octets == [192, 0, 3, 7],
+        _ => false,
+    }
+}
+
+/// Whether it is an observation of challenge 3, of a page behind one redirect.
+fn is_web(alloc: Global) -> bool {
+    match read_entry(alloc, WEB) {
+        Ok(entry) => match &entry.what {
+            What::Observation {
+                challenge,
+                seen_at,
+                seen: Seen::Web(seen),
+                ..
+            } => {
+                *challenge == 3
+                    && *seen_at == 1_789_999_999
+                    && seen.url.as_slice() == b"http://e/".as_slice()
+                    && is_moved(seen.hops.as_slice())
+                    && seen.status == 200
+                    && seen.body.as_slice() == b"x\n".as_slice()
+            }
+            _ => false,
+        },
+        Err(_) => false,
+    }
+}
+
+fn is_moved(hops: &[Hop]) -> bool {
+    match hops {
+        [hop] => hop.status == 301 && hop.location.as_slice() == b"http://f/".as_slice(),
+        _ => false,
+    }
+}
+
+/// Whether it is an answer that failed, two records, and none.
+fn are_caa_answers(alloc: Global) -> bool {
+    match read_entry(alloc, CAA) {
+        Ok(entry) => match &entry.what {
+            What::CaaAnswer { order, answers, .. } => {
+                *order == 2 && are_three(answers.answers.as_slice())
+            }
+            _ => false,
+        },
+        Err(_) => false,
+    }
+}
+
+fn are_three(answers: &[CaaAnswer]) -> bool {
+    match answers {
+        [
+            CaaAnswer::Failed,
+            CaaAnswer::Set { ttl, rows },
+            CaaAnswer::Set { ttl: 0, rows: none },
+        ] => *ttl == 300 && is_issue(rows.as_slice()) && none.is_empty(),
+        _ => false,
+    }
+}
+
+fn is_issue(rows: &[CaaRow]) -> bool {
+    match rows {
+        [first, second] => {
+            first.flags == 128
+                && first.tag.as_slice() == b"issue".as_slice()
+                && first.value.as_slice() == b";".as_slice()
+                && second.value.is_empty()
+        }
+        _ => false,
+    }
+}
+
+/// So many TXT records of so many bytes, or fewer without memory.
+fn observe(alloc: Global, count: usize, size: usize) -> Command {
+    let mut txts: ByteLists = Sequence::new(alloc);
+    for _ in 0..count {
+        let _ = txts.push(zeros(alloc, size));
+    }
+    Command::Observe {
+        key: zeros(alloc, 1),
+        challenge: 3,
+        seen_at: 0,
+        seen: Seen::Dns(DnsSeen {
+            prefix: zeros(alloc, 0),
+            txts,
+            cnames: Sequence::new(alloc),
+        }),
+    }
+}
+
+/// So many answers of so many records, whose values have so many bytes; or fewer without memory.
+fn observe_caa(alloc: Global, count: usize, records: usize, size: usize) -> Command {
+    let mut answers: CaaAnswers = Sequence::new(alloc);
+    for _ in 0..count {
+        let _ = answers.push(CaaAnswer::Set {
+            ttl: 0,
+            rows: rows(alloc, records, size),
+        });
+    }
+    Command::ObserveCaa {
+        key: zeros(alloc, 1),
+        order: 2,
+        target: Target::Ip(Address::V4([192, 0, 3, 7])),
+        seen_at: 0,
+        caa: CaaSeen { answers },
+    }
+}
+
+fn rows(alloc: Global, count: usize, size: usize) -> CaaRows {
+    let mut rows: CaaRows = Sequence::new(alloc);
+    for _ in 0..count {
+        let _ = rows.push(CaaRow {
+            flags: 0,
+            tag: zeros(alloc, 0),
+            value: zeros(alloc, size),
+        });
+    }
+    rows
+}
+
+fn challenge(alloc: Global, key: usize) -> Command {
+    Command::Challenge {
+        key: zeros(alloc, key),
+        order: 2,
+        target: Target::Ip(Address::V4([192, 0, 3, 7])),
+        method: Method::WebChange,
+    }
+}
+
 /// Whether an account, a perspective and an operator have the command.
 fn roles(command: &Command) -> (bool, bool, bool) {
     (
@@ -285,6 +472,68 @@ fn commands_fit_and_have_their_roles(rt: HostRuntime) {
         roles(&Command::Finalize { order: 2 }),
         (true, false, false)
     );
+}
+
+#[test]
+fn new_commands_fit_and_have_their_roles(rt: HostRuntime) {
+    let alloc = rt.alloc();
+    for (key, fits) in [(255usize, true), (256, false)] {
+        assert_eq!(rt; challenge(alloc, key).fits(), fits, "{key}");
+    }
+    for (count, size, fits) in [
+        (255usize, 0usize, true),
+        (256, 0, false),
+        (1, 65_536, false),
+        // 17 records are longer than an entry
+        (16, 65_535, true),
+        (17, 65_535, false),
+    ] {
+        assert_eq!(rt;
+            observe(alloc, count, size).fits(),
+            fits,
+            "{count} of {size}"
+        );
+    }
+    for (count, records, size, fits) in [
+        (255usize, 1usize, 0usize, true),
+        (256, 0, 0, false),
+        (1, 255, 0, true),
+        (1, 256, 0, false),
+        (1, 1, 65_536, false),
+        (2, 8, 65_535, true),
+        (1, 17, 65_535, false),
+    ] {
+        let command = observe_caa(alloc, count, records, size);
+        assert_eq!(rt; command.fits(), fits, "{count} of {records} of {size}");
+    }
+    assert_eq!(rt; roles(&challenge(alloc, 1)), (true, false, false));
+    assert_eq!(rt; roles(&observe(alloc, 1, 1)), (false, true, false));
+    assert_eq!(rt; roles(&observe_caa(alloc, 1, 1, 1)), (false, true, false));
+}
+
+#[test]
+fn challenges_and_what_was_seen_are_read_written_and_refused(rt: HostRuntime) {
+    let alloc = rt.alloc();
+    for (name, bytes, starts) in SPELLED {
+        assert_eq!(rt; told(alloc, bytes), None, "{name}");
+        for size in 0..bytes.len() {
+            assert_eq!(rt;
+                cut_after(alloc, bytes, size),
+                field_at(starts, size),
+                "{name}, {size} bytes"
+            );
+        }
+    }
+    assert!(rt; is_acme(alloc));
+    assert!(rt; is_web(alloc));
+    assert!(rt; are_caa_answers(alloc));
+    for (bytes, index, byte, at) in KIND_CHANGES {
+        assert_eq!(rt;
+            changed_in(alloc, bytes, *index, *byte),
+            Some(*at),
+            "{byte} at {index} of {bytes:?}"
+        );
+    }
 }
 
 #[test]

@@ -14,7 +14,7 @@ use Rattle.names_core.specs.declared.fault.NameFault.TheVariants.{Empty, LongLab
 use Rattle.names_core.specs.Name.{labels_break, labels_of, name_of, name_read, unless}
 use Rattle.names_core.specs.Target.{name_text}
 use Rattle.tbs_build.specs.Small.{general_names, IsShort}
-use Rattle.gate_entries.specs.Spelling.{IsTarget}
+use Rattle.gate_entries.specs.Target.{IsTarget}
 use Rattle.gate_machine.specs.Sends.{more_octets, serial_in, small_bytes}
 
 -- ---- the serial number

@@ -50,6 +50,9 @@ says kept_entry entry reply is = elim is [
 no_disk : (what : What) (number : ℕ) → reply_to what number ≢ DiskFault
 no_disk (whats.Blocked key spki) number is = cc is
 no_disk (whats.Settings bytes) number is = cc is
+no_disk (whats.Challenge key order method target value thumb) number is = cc is
+no_disk (whats.Observation key challenge seen_at seen) number is = cc is
+no_disk (whats.CaaAnswer key order target seen_at answers) number is = cc is
 no_disk (whats.Order key common days targets request) number is = cc is
 no_disk (whats.Send order body) number is = cc is
 no_disk (whats.Signed order signature) number is = cc is
@@ -128,6 +131,9 @@ command_may : (history : List Entry) (caller : Caller) (command : Command) (read
     → AnswersCommand history caller command reading drawn answer → MayFollow answer
 command_may history caller (commands.Finalize number) reading drawn answer answers = finalize_may history caller reading number drawn answer answers
 command_may history caller (commands.Order key targets days common request) reading drawn answer answers = entry_may history answers.entry answer answers.answers
+command_may history caller (commands.Challenge key order target method) reading drawn answer answers = as_answer answer _ answers refl
+command_may history caller (commands.Observe key challenge seen_at seen) reading drawn answer answers = as_answer answer _ answers refl
+command_may history caller (commands.ObserveCaa key order target seen_at caa) reading drawn answer answers = as_answer answer _ answers refl
 command_may history caller (commands.Block key spki) reading drawn answer answers = entry_may history answers.entry answer answers.answers
 
 pub may_follow : (history : List Entry) (caller : Caller) (command : Command) (reading : ℕ) (drawn : Option Sixteen) (answer : Answer)

@@ -15,7 +15,7 @@ use Rattle.gate_entries.specs.Command.{entry_with}
 use Rattle.gate_machine.specs.Rules.{BreaksNone}
 use Rattle.gate_machine.specs.History.{last_moment, moment_of, record_size, journal_size, IsSignature, MeetsRow, Follows, EachFollows, Legal}
 use Rattle.gate_machine.specs.Sends.{is_send_for, order_in, signed_entry, own_order, signed_for, block_of, IsOrderKey, IsBodyOf, ComesToSigner}
-use Rattle.gate_machine.specs.Answer.{IsInRange, IsNew, command_moment, entry_of_command, send_entry}
+use Rattle.gate_machine.specs.Answer.{IsInRange, is_offered, IsNew, command_moment, entry_of_command, send_entry}
 
 -- the last entry of a history that has one more
 pub moment_of-push : (history : List Entry) (entry : Entry) → moment_of (history ++ entry ∷ []) ≡ entry.moment.0
@@ -73,9 +73,12 @@ module _ (history : List Entry) (caller : Caller) (reading : ℕ) (legal : Legal
       → Follows history (send_entry history caller reading number body)
   sends number body comes spelled = under_key (whats.Send number body) comes spelled
 
-  comes : (command : Command) (entry : Entry) → entry_of_command history caller command reading ≡ Some entry → IsEntry entry
+  comes : (command : Command) (entry : Entry) → is_offered command ≡ true → entry_of_command history caller command reading ≡ Some entry → IsEntry entry
       → IsNew history entry → BreaksNone entry.what → Follows history entry
-  comes (commands.Order key targets days common request) entry writes spelled new fields =
+  comes (commands.Challenge key order target method) entry offered writes spelled new fields = absurd cc
+  comes (commands.Observe key challenge seen_at seen) entry offered writes spelled new fields = absurd cc
+  comes (commands.ObserveCaa key order target seen_at caa) entry offered writes spelled new fields = absurd cc
+  comes (commands.Order key targets days common request) entry offered writes spelled new fields =
       let what : What = whats.Order key common days targets request in
       let is : entry_with (length history + 1) (command_moment history reading) caller.id what ≡ entry = cc writes in
       subst (λ (e : Entry). Follows history e) is (under_key what (record {
@@ -83,8 +86,8 @@ module _ (history : List Entry) (caller : Caller) (reading : ℕ) (legal : Legal
         new = subst (λ (e : Entry). IsNew history e) (sym is) new;
         fields = subst (λ (e : Entry). BreaksNone e.what) (sym is) fields;
       }) (subst IsEntry (sym is) spelled))
-  comes (commands.Finalize order) entry writes spelled new fields = absurd (none_some writes)
-  comes (commands.Block key spki) entry writes spelled new fields =
+  comes (commands.Finalize order) entry offered writes spelled new fields = absurd (none_some writes)
+  comes (commands.Block key spki) entry offered writes spelled new fields =
       let what : What = whats.Blocked key spki in
       let is : entry_with (length history + 1) (command_moment history reading) caller.id what ≡ entry = cc writes in
       subst (λ (e : Entry). Follows history e) is (under_key what (record {
@@ -94,8 +97,9 @@ module _ (history : List Entry) (caller : Caller) (reading : ℕ) (legal : Legal
       }) (subst IsEntry (sym is) spelled))
 
 pub may_come : (history : List Entry) (caller : Caller) (command : Command) (reading : ℕ) (entry : Entry) → Legal history → IsInRange reading
-    → entry_of_command history caller command reading ≡ Some entry → IsEntry entry → IsNew history entry → BreaksNone entry.what → Follows history entry
-may_come history caller command reading entry legal in_range writes spelled new fields = comes history caller reading legal in_range command entry writes spelled new fields
+    → is_offered command ≡ true → entry_of_command history caller command reading ≡ Some entry → IsEntry entry → IsNew history entry → BreaksNone entry.what → Follows history entry
+may_come history caller command reading entry legal in_range offered writes spelled new fields =
+    comes history caller reading legal in_range command entry offered writes spelled new fields
 
 -- a body that is sent may come behind a legal history
 pub send_may_come : (history : List Entry) (caller : Caller) (reading number : ℕ) (body key : List ℕ) (order entry : Entry) → Legal history → IsInRange reading

@@ -11,7 +11,7 @@ use Rattle.gate_base.specs.declared.sixteen.Sixteen.{Sixteen}
 use Rattle.tbs_build.specs.Small.{IsSerial, IsShort}
 use Rattle.gate_entries.specs.declared.entry.Entry.{Entry}
 use Rattle.gate_entries.specs.declared.entry.What.{What}
-use Rattle.gate_entries.specs.declared.entry.What.TheVariants.{Settings, Order, Send, Signed, Blocked}
+use Rattle.gate_entries.specs.declared.entry.What.TheVariants.{Settings, Order, Challenge, Observation, CaaAnswer, Send, Signed, Blocked}
 use Rattle.gate_entries.specs.Spelling.{IsWhat}
 use Rattle.gate_machine.specs.History.{MeetsRow, ComesSigned, Follows, EachFollows}
 use Rattle.gate_machine.specs.Keys.{is_same}
@@ -76,6 +76,9 @@ first_holds false y z all = absurd cc
 order_kept : (what : What) (before : List Entry) (caller : List ℕ) (moment : Moment) → is_order what ≡ true → MeetsRow before caller moment what → BreaksNone what
 order_kept (Order key common days targets request) before caller moment is row = row.fields
 order_kept (Settings bytes) before caller moment is row = absurd cc
+order_kept (Challenge key order method target value thumb) before caller moment is row = absurd cc
+order_kept (Observation key challenge seen_at seen) before caller moment is row = absurd cc
+order_kept (CaaAnswer key order target seen_at answers) before caller moment is row = absurd cc
 order_kept (Send number body) before caller moment is row = absurd cc
 order_kept (Signed number signature) before caller moment is row = absurd cc
 order_kept (Blocked key spki) before caller moment is row = absurd cc
@@ -96,6 +99,9 @@ own_is_order caller number history order each own =
 pub targets_fit : (what : What) → IsWhat what → is_order what ≡ true → (length (targets_of what) ≤ 255) × AllByRecursion IsShort (targets_of what)
 targets_fit (Order key common days targets request) is order = (omega (arith, is.are_targets.count), all_short targets is.are_targets.each)
 targets_fit (Settings bytes) is order = absurd cc
+targets_fit (Challenge key order method target value thumb) is order = absurd cc
+targets_fit (Observation key challenge seen_at seen) is order = absurd cc
+targets_fit (CaaAnswer key order target seen_at answers) is order = absurd cc
 targets_fit (Send number body) is order = absurd cc
 targets_fit (Signed number signature) is order = absurd cc
 targets_fit (Blocked key spki) is order = absurd cc
@@ -115,6 +121,9 @@ row_of : (number : ℕ) (before : List Entry) (caller : List ℕ) (moment : Mome
 row_of number before caller moment (Send order body) sends row is =
     (subst (λ (n : ℕ). ComesToSigner before caller n body) (eqb-true order number sends) row, is.1)
 row_of number before caller moment (Settings bytes) sends row is = absurd cc
+row_of number before caller moment (Challenge key order method target value thumb) sends row is = absurd cc
+row_of number before caller moment (Observation key challenge seen_at seen) sends row is = absurd cc
+row_of number before caller moment (CaaAnswer key order target seen_at answers) sends row is = absurd cc
 row_of number before caller moment (Order key common days targets request) sends row is = absurd cc
 row_of number before caller moment (Signed order signature) sends row is = absurd cc
 row_of number before caller moment (Blocked key spki) sends row is = absurd cc
@@ -158,6 +167,9 @@ signed_row : (number : ℕ) (before : List Entry) (caller : List ℕ) (moment : 
 signed_row number before caller moment (Signed order signature) signs row =
     subst (λ (n : ℕ). ComesSigned before caller moment n signature) (eqb-true order number signs) row
 signed_row number before caller moment (Settings bytes) signs row = absurd cc
+signed_row number before caller moment (Challenge key order method target value thumb) signs row = absurd cc
+signed_row number before caller moment (Observation key challenge seen_at seen) signs row = absurd cc
+signed_row number before caller moment (CaaAnswer key order target seen_at answers) signs row = absurd cc
 signed_row number before caller moment (Order key common days targets request) signs row = absurd cc
 signed_row number before caller moment (Send order body) signs row = absurd cc
 signed_row number before caller moment (Blocked key spki) signs row = absurd cc
@@ -237,6 +249,9 @@ pub not_order : (what : What) → is_order what ≡ true
     → ((key : List ℕ) (common : Bool) (days : ℕ) (targets : List Target) (request : List ℕ) → what ≡ Order key common days targets request → ⊥) → ⊥
 not_order (Order key common days targets request) is none = none key common days targets request refl
 not_order (Settings bytes) is none = cc is
+not_order (Challenge key order method target value thumb) is none = cc is
+not_order (Observation key challenge seen_at seen) is none = cc is
+not_order (CaaAnswer key order target seen_at answers) is none = cc is
 not_order (Send number body) is none = cc is
 not_order (Signed number signature) is none = cc is
 not_order (Blocked key spki) is none = cc is

@@ -1,6 +1,6 @@
 -- What a command is answered over a history, a reading of the clock and drawn bytes: a reply to say, an entry to write, a body to
 -- send, or that bytes must be drawn.
-use Rattle.std.specs.Prelude.{◌≡◌, ◌≢◌, ℕ, ◌+◌, ◌<◌, ◌≤◌, ◌⊎◌, max, true, List, [], ◌∷◌, length, Option, Some, None}
+use Rattle.std.specs.Prelude.{◌≡◌, ◌≢◌, ℕ, ◌+◌, ◌<◌, ◌≤◌, ◌⊎◌, max, Bool, true, false, List, [], ◌∷◌, length, Option, Some, None}
 use Rattle.gate_base.specs.declared.moment.Moment.{Moment}
 use Rattle.gate_entries.specs.declared.caller.Caller.{Caller}
 use Rattle.gate_entries.specs.declared.command.Command.{Command}
@@ -165,9 +165,27 @@ AnswersFinalize history caller reading number drawn answer =
     ((own_order caller.id number history ≡ None) × (answer ≡ Say replies.NoSuchOrder))
     ⊎ AnswersOwn history caller reading number drawn answer
 
+-- whether the command is offered as yet: challenges, observations and CAA answers are not
+abbrev pub is_offered : Command → Bool
+is_offered (commands.Order key targets days common request) = true
+is_offered (commands.Challenge key order target method) = false
+is_offered (commands.Observe key challenge seen_at seen) = false
+is_offered (commands.ObserveCaa key order target seen_at caa) = false
+is_offered (commands.Finalize order) = true
+is_offered (commands.Block key spki) = true
+
+-- what isn't offered is answered as if no role had it
+abbrev pub AnswersDenied : Answer → Type 0
+AnswersDenied answer = answer ≡ Say replies.RoleDenied
+
 abbrev pub AnswersCommand : List Entry → Caller → Command → ℕ → Option Sixteen → Answer → Type 0
 AnswersCommand history caller (commands.Finalize number) reading drawn answer = AnswersFinalize history caller reading number drawn answer
-AnswersCommand history caller command reading drawn answer = AnswersWriting history caller command reading answer
+AnswersCommand history caller (commands.Challenge key order target method) reading drawn answer = AnswersDenied answer
+AnswersCommand history caller (commands.Observe key challenge seen_at seen) reading drawn answer = AnswersDenied answer
+AnswersCommand history caller (commands.ObserveCaa key order target seen_at caa) reading drawn answer = AnswersDenied answer
+AnswersCommand history caller (commands.Order key targets days common request) reading drawn answer =
+    AnswersWriting history caller (commands.Order key targets days common request) reading answer
+AnswersCommand history caller (commands.Block key spki) reading drawn answer = AnswersWriting history caller (commands.Block key spki) reading answer
 
 -- The first refusal that holds. What is written: a reading out of range, a key with other content, a field that breaks a rule, no
 -- room. What is finalized: a reading out of range, no such order, a serial number that stands, a blocked key, no room.

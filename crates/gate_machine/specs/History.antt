@@ -3,7 +3,7 @@ use Rattle.std.specs.Prelude.{◌≡◌, ◌≢◌, ℕ, ◌+◌, ◌-◌, ◌�
 use Rattle.std.specs.Option.{option_map_or}
 use Rattle.gate_entries.specs.declared.entry.Entry.{Entry}
 use Rattle.gate_entries.specs.declared.entry.What.{What}
-use Rattle.gate_entries.specs.declared.entry.What.TheVariants.{Settings, Order, Send, Signed, Blocked}
+use Rattle.gate_entries.specs.declared.entry.What.TheVariants.{Settings, Order, Challenge, Observation, CaaAnswer, Send, Signed, Blocked}
 use Rattle.gate_entries.specs.Spelling.{entry_bytes, IsEntry}
 use Rattle.gate_entries.specs.Command.{key_of}
 use Rattle.gate_base.specs.declared.moment.Moment.{Moment}
@@ -59,10 +59,13 @@ pub record ComesSigned (before : List Entry) (caller : List ℕ) (moment : Momen
   pub size : IsSignature signature
 
 -- what each kind asks of the entries before it: the settings stand first, are nobody's, and are empty so far;
--- an order and a blocked key come under a new key
+-- an order and a blocked key come under a new key. Challenges, observations and CAA answers have no place in a history as yet
 abbrev pub MeetsRow : List Entry → List ℕ → Moment → What → Type 0
 MeetsRow before caller moment (Settings bytes) = (before ≡ []) × (caller ≡ []) × (bytes ≡ [])
 MeetsRow before caller moment (Order key common days targets request) = ComesUnderKey before caller (Order key common days targets request)
+MeetsRow before caller moment (Challenge key order method target value thumb) = ⊥
+MeetsRow before caller moment (Observation key challenge seen_at seen) = ⊥
+MeetsRow before caller moment (CaaAnswer key order target seen_at answers) = ⊥
 MeetsRow before caller moment (Blocked key spki) = ComesUnderKey before caller (Blocked key spki)
 MeetsRow before caller moment (Send order body) = ComesToSigner before caller order body
 MeetsRow before caller moment (Signed order signature) = ComesSigned before caller moment order signature

@@ -1,10 +1,10 @@
-ghost use Rattle.std.specs.Prelude.{◌≡◌, ◌≢◌, ◌↔◌, ◌≤◌, Option, None, IsTrue, IfOk};
+ghost use Rattle.std.specs.Prelude.{◌≡◌, ◌≢◌, ◌↔◌, ◌≤◌, true, Option, None, IsTrue, IfOk};
 ghost use Rattle.gate_entries.specs.Spelling.{IsEntry};
 ghost use Rattle.gate_entries.specs.Command.{what_of, IsCommand, IsCaller};
 ghost use Rattle.gate_machine.specs.Rules.{BreaksNone};
 ghost use Rattle.gate_machine.specs.History.{journal_size, Legal, Follows};
 ghost use Rattle.gate_base.specs.declared.sixteen.Sixteen.{Sixteen as SixteenValue};
-ghost use Rattle.gate_machine.specs.Answer.{Answers, AnswersCommand, AnswersEntry, AnswersNew, IsReady, MayBe, IsNew, SaysKept, IsInRange, reply_of};
+ghost use Rattle.gate_machine.specs.Answer.{Answers, AnswersCommand, AnswersEntry, AnswersNew, IsReady, MayBe, is_offered, IsNew, SaysKept, IsInRange, reply_of};
 
 use crate::finalizing::answer_finalize;
 use crate::following::{FIRST_MOMENT, LAST_MOMENT, find_kept, last_moment};
@@ -50,11 +50,24 @@ pub fn answer_command(
     if !is_in_range(reading) {
         return Ok(Answer::Say(Reply::ClockRange { reading }));
     }
+    if !is_offered(command) {
+        return Ok(Answer::Say(Reply::RoleDenied));
+    }
     let number = history.len() as u64 + 1;
     let moment = Moment(reading.max(last_moment(history)));
     match command.entry(alloc, number, moment, caller)? {
         Some(entry) => answer_entry(alloc, history, size, entry),
         None => answer_other(alloc, history, size, caller, command, reading, drawn),
+    }
+}
+
+/// Whether the command is offered as yet: challenges, observations and CAA answers are not.
+fn is_offered(command: &Command) -> bool
+    ensures { result ≡ is_offered command.now }
+{
+    match command {
+        Command::Order { .. } | Command::Finalize { .. } | Command::Block { .. } => true,
+        Command::Challenge { .. } | Command::Observe { .. } | Command::ObserveCaa { .. } => false,
     }
 }
 
@@ -73,6 +86,7 @@ fn answer_other(
     requires caller { IsCaller caller.now }
     requires in_range { IsInRange reading }
     requires writes { what_of command.now ≡ None }
+    requires offered { is_offered command.now ≡ true }
     ensures answers { IfOk result (AnswersCommand history.now caller.now command.now reading drawn) }
     ensures ready { IfOk result (IsReady history.now) }
     ensures may { IfOk result (MayBe drawn) }
@@ -81,7 +95,11 @@ fn answer_other(
         Command::Finalize { order } => answer_finalize(
             alloc, history, size, caller, *order, reading, drawn,
         ),
-        Command::Order { .. } | Command::Block { .. } => unreachable!(),
+        Command::Order { .. }
+        | Command::Challenge { .. }
+        | Command::Observe { .. }
+        | Command::ObserveCaa { .. }
+        | Command::Block { .. } => unreachable!(),
     }
 }
 

@@ -102,6 +102,8 @@ fn meets_row(
             Ok(before.is_empty() && caller.is_empty() && bytes.is_empty())
         }
         What::Order { .. } | What::Blocked { .. } => comes_under_key(alloc, before, caller, what),
+        // Challenges, observations and CAA answers have no place in a history as yet.
+        What::Challenge { .. } | What::Observation { .. } | What::CaaAnswer { .. } => Ok(false),
         What::Send { order, body } => comes_to_signer(alloc, before, caller, *order, body),
         What::Signed { order, signature } => {
             Ok(comes_signed(before, caller, moment, *order, signature))

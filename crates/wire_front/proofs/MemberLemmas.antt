@@ -10,7 +10,7 @@ use Rattle.base64.specs.GeneralPurpose.{encode_of, decode_of, IsBytes}
 use Rattle.base64.specs.Engines.{standard}
 use Rattle.base64.proofs.EngineFacts.{decode_of-encode_of}
 use Rattle.gate_entries.specs.declared.command.Command.{Command}
-use Rattle.gate_entries.specs.declared.command.Command.TheVariants.{Order, Finalize, Block}
+use Rattle.gate_entries.specs.declared.command.Command.TheVariants.{Order, Challenge, Observe, ObserveCaa, Finalize, Block}
 use Rattle.wire_front.proofs.Truths.{left_holds, right_holds}
 use Rattle.wire_front.specs.Message.{is_plain_byte, names_text, is_key, body_of, IsSaid}
 use Rattle.wire_front.specs.Reading.{Reads, ◌>>=◌, field_at, behind, before, Texts, members_at, texts_of}
@@ -31,6 +31,9 @@ body_text (Order key targets days common request) is =
     pieces (codes "{\"common\":false,\"days\":") (decimal days) (codes ",\"key\":\"") key (codes "\",\"names\":[") (names_text targets) (codes "],\"request\":\"")
     (encode_of standard request) (codes "\"}")
 body_text (Finalize order) is = absurd is
+body_text (Challenge key order target method) is = absurd is
+body_text (Observe key challenge seen_at seen) is = absurd is
+body_text (ObserveCaa key order target seen_at caa) is = absurd is
 body_text (Block key spki) is = absurd is
 
 -- texts without the byte that ends them
@@ -103,6 +106,9 @@ are_free (Order key targets days common request) is = record {
   names = names_free 93 bracket refl refl refl targets is.names_fit.each;
 }
 are_free (Finalize order) is = absurd is
+are_free (Challenge key order target method) is = absurd is
+are_free (Observe key challenge seen_at seen) is = absurd is
+are_free (ObserveCaa key order target seen_at caa) is = absurd is
 are_free (Block key spki) is = absurd is
 
 -- a body is read to its texts
@@ -145,8 +151,14 @@ one_order (Order key targets days common request) (Order key2 targets2 days2 com
     let e4 : request ≡ request2 = one_request request request2 is_left.request_fits.bytes is_right.request_fits.bytes (ap (λ (x : Texts). x.3) e) in
     rw (e0, e1, e2, e3, e4) refl
 one_order (Order key targets days common request) (Finalize order) is_left is_right same = absurd is_right
+one_order (Order key targets days common request) (Challenge key2 order2 target2 method2) is_left is_right same = absurd is_right
+one_order (Order key targets days common request) (Observe key2 challenge2 seen_at2 seen2) is_left is_right same = absurd is_right
+one_order (Order key targets days common request) (ObserveCaa key2 order2 target2 seen_at2 caa2) is_left is_right same = absurd is_right
 one_order (Order key targets days common request) (Block key2 spki) is_left is_right same = absurd is_right
 one_order (Finalize order) right is_left is_right same = absurd is_left
+one_order (Challenge key order target method) right is_left is_right same = absurd is_left
+one_order (Observe key challenge seen_at seen) right is_left is_right same = absurd is_left
+one_order (ObserveCaa key order target seen_at caa) right is_left is_right same = absurd is_left
 one_order (Block key spki) right is_left is_right same = absurd is_left
 
 pub key_length : (key : List ℕ) → is_key key ≡ true → length key ≤ 64

@@ -7,8 +7,8 @@ use Rattle.base64.specs.Engines.{standard}
 use Rattle.gate_base.specs.declared.name.Target.{Target}
 use Rattle.gate_base.specs.declared.name.Target.TheVariants.{Dns, Ip}
 use Rattle.gate_entries.specs.declared.command.Command.{Command}
-use Rattle.gate_entries.specs.declared.command.Command.TheVariants.{Order, Finalize, Block}
-use Rattle.gate_entries.specs.Spelling.{IsTarget}
+use Rattle.gate_entries.specs.declared.command.Command.TheVariants.{Order, Challenge, Observe, ObserveCaa, Finalize, Block}
+use Rattle.gate_entries.specs.Target.{IsTarget}
 use Rattle.gate_entries.specs.Command.{IsCommand}
 use Rattle.wire_front.specs.declared.message.Found.{Found}
 use Rattle.wire_front.specs.declared.message.Found.TheVariants as found
@@ -33,6 +33,9 @@ body_some (Order key targets days common request) is = omega (
       (names_text targets) (codes "],\"request\":\"") (encode_of standard request) (codes "\"}")),
 )
 body_some (Finalize order) is = absurd is
+body_some (Challenge key order target method) is = absurd is
+body_some (Observe key challenge seen_at seen) is = absurd is
+body_some (ObserveCaa key order target seen_at caa) is = absurd is
 body_some (Block key spki) is = absurd is
 
 body_size : (bytes : List ℕ) (command : Command) → AsksOrder bytes command → IsSize (length (body_of command))
@@ -68,17 +71,29 @@ one_message (Order key targets days common request) (Order key2 targets2 days2 c
     one_order_message (Order key targets days common request) (Order key2 targets2 days2 common2 request2) a b r s is_left is_right same
 one_message (Order key targets days common request) (Finalize n) a b r s is_left is_right same =
     absurd (apart (Order key targets days common request) n a b r s is_left is_right same)
+one_message (Order key targets days common request) (Challenge key2 order2 target2 method2) a b r s is_left is_right same = absurd is_right
+one_message (Order key targets days common request) (Observe key2 challenge2 seen_at2 seen2) a b r s is_left is_right same = absurd is_right
+one_message (Order key targets days common request) (ObserveCaa key2 order2 target2 seen_at2 caa2) a b r s is_left is_right same = absurd is_right
 one_message (Order key targets days common request) (Block key2 spki) a b r s is_left is_right same = absurd is_right
 one_message (Finalize m) (Order key targets days common request) a b r s is_left is_right same =
     absurd (apart (Order key targets days common request) m b a s r is_right is_left (sym same))
 one_message (Finalize m) (Finalize n) a b r s is_left is_right same = one_finalize_message m n a b r s is_left is_right same
+one_message (Finalize m) (Challenge key order2 target2 method2) a b r s is_left is_right same = absurd is_right
+one_message (Finalize m) (Observe key challenge2 seen_at2 seen2) a b r s is_left is_right same = absurd is_right
+one_message (Finalize m) (ObserveCaa key order2 target2 seen_at2 caa2) a b r s is_left is_right same = absurd is_right
 one_message (Finalize m) (Block key spki) a b r s is_left is_right same = absurd is_right
+one_message (Challenge key order target method) right a b r s is_left is_right same = absurd is_left
+one_message (Observe key challenge seen_at seen) right a b r s is_left is_right same = absurd is_left
+one_message (ObserveCaa key order target seen_at caa) right a b r s is_left is_right same = absurd is_left
 one_message (Block key spki) right a b r s is_left is_right same = absurd is_left
 
 -- a message has bytes
 pub some_message : (bytes : List ℕ) (command : Command) → IsMessageOf bytes command → 1 ≤ length bytes
 some_message bytes (Order key targets days common request) asks = omega (arith, ap length asks.whole)
 some_message bytes (Finalize order) asks = omega (arith, ap length asks.whole)
+some_message bytes (Challenge key order target method) asks = absurd asks
+some_message bytes (Observe key challenge seen_at seen) asks = absurd asks
+some_message bytes (ObserveCaa key order target seen_at caa) asks = absurd asks
 some_message bytes (Block key spki) asks = absurd asks
 
 -- ---- the order at the front
@@ -95,11 +110,17 @@ said_spelled (Order key targets days common request) is = record {
   request_fits = omega (arith, is.request_fits.fits);
 }
 said_spelled (Finalize order) is = absurd is
+said_spelled (Challenge key order target method) is = absurd is
+said_spelled (Observe key challenge seen_at seen) is = absurd is
+said_spelled (ObserveCaa key order target seen_at caa) is = absurd is
 said_spelled (Block key spki) is = absurd is
 
 asks_order : (bytes : List ℕ) (command : Command) → AsksOrder bytes command → IsMessageOf bytes command
 asks_order bytes (Order key targets days common request) asks = asks
 asks_order bytes (Finalize order) asks = absurd asks.said
+asks_order bytes (Challenge key order target method) asks = absurd asks.said
+asks_order bytes (Observe key challenge seen_at seen) asks = absurd asks.said
+asks_order bytes (ObserveCaa key order target seen_at caa) asks = absurd asks.said
 asks_order bytes (Block key spki) asks = absurd asks.said
 
 pub order_found : (bytes body behind : List ℕ) (command : Command) → IsSize (length body) → bytes ≡ framed body ++ behind → IsSaid command → body ≡ body_of command
@@ -150,6 +171,9 @@ finalize_found bytes order behind reads = record { message = reads.message; asks
 pub no_message : (bytes : List ℕ) → (StartsWithFinalize bytes → ⊥) → HasNoOrder bytes → HasNoMessage bytes
 no_message bytes none no_orders message rest (Order key targets days common request) asks same = no_orders message rest (Order key targets days common request) asks same
 no_message bytes none no_orders message rest (Finalize order) asks same = none (record { order = order; rest = rest; reads = record { message = message; asks = asks; whole = same } })
+no_message bytes none no_orders message rest (Challenge key order target method) asks same = absurd asks
+no_message bytes none no_orders message rest (Observe key challenge seen_at seen) asks same = absurd asks
+no_message bytes none no_orders message rest (ObserveCaa key order target seen_at caa) asks same = absurd asks
 no_message bytes none no_orders message rest (Block key spki) asks same = absurd asks
 
 nothing_more : (Begins : List ℕ → Type 0) (bytes : List ℕ) → ((more : List ℕ) → Begins (bytes ++ more) → ⊥) → Begins bytes → ⊥

@@ -10,7 +10,7 @@ use Rattle.gate_base.specs.declared.name.Target.TheVariants.{Dns, Ip}
 use Rattle.names_core.specs.declared.fault.NameFault.{NameFault}
 use Rattle.names_core.specs.Name.{name_read}
 use Rattle.names_core.specs.Target.{name_text}
-use Rattle.gate_entries.specs.Spelling.{IsTarget}
+use Rattle.gate_entries.specs.Target.{IsTarget}
 use Rattle.wire_front.specs.Message.{is_plain_byte, domain_text, quoted, names_text, last_begins_with_letter, IsDomain, AreDistinct, AreNames}
 use Rattle.wire_front.specs.Reading.{ReadsQuoted, behind, field_at}
 use Rattle.wire_front.proofs.Truths.{left_holds, right_holds}

@@ -10,9 +10,9 @@ use Rattle.gate_base.specs.declared.name.Target.{Target}
 use Rattle.gate_base.specs.declared.name.Target.TheVariants.{Dns, Ip}
 use Rattle.names_core.specs.Target.{name_text}
 use Rattle.gate_entries.specs.declared.command.Command.{Command}
-use Rattle.gate_entries.specs.declared.command.Command.TheVariants.{Order, Finalize, Block}
+use Rattle.gate_entries.specs.declared.command.Command.TheVariants.{Order, Challenge, Observe, ObserveCaa, Finalize, Block}
 use Rattle.gate_entries.specs.Command.{IsCommand}
-use Rattle.gate_entries.specs.Spelling.{IsTarget}
+use Rattle.gate_entries.specs.Target.{IsTarget}
 use Rattle.wire_front.specs.declared.message.Found.{Found}
 use Rattle.wire_front.specs.declared.message.Found.TheVariants as found
 
@@ -129,10 +129,13 @@ pub record AsksFinalize (bytes : List ℕ) (order : ℕ) : Type 0 where
   pub number : order ≡ digits_value 10 digits
   pub whole : bytes ≡ finalize_text digits
 
--- the bytes are a message that asks the command
+-- the bytes are a message that asks the command; blocks, challenges, observations and CAA answers have no message as yet
 abbrev pub IsMessageOf : List ℕ → Command → Type 0
 IsMessageOf bytes (Order key targets days common request) = AsksOrder bytes (Order key targets days common request)
 IsMessageOf bytes (Finalize order) = AsksFinalize bytes order
+IsMessageOf bytes (Challenge key order target method) = ⊥
+IsMessageOf bytes (Observe key challenge seen_at seen) = ⊥
+IsMessageOf bytes (ObserveCaa key order target seen_at caa) = ⊥
 IsMessageOf bytes (Block key spki) = ⊥
 
 -- no message stands at the front

@@ -1,8 +1,8 @@
 use Rattle.std.proofs.Common.{◌≡◌, Err, sym, ap, subst, ◌∙◌, arith}
 use Rattle.gate_entries.specs.declared.fault.FieldFault.{FieldFault}
-use Rattle.gate_entries.specs.Reading.{Fails, whole_entry}
-use Rattle.gate_entries.proofs.Entries.{entry_found}
-use Rattle.gate_entries.proofs.Again.{entry_again}
+use Rattle.gate_entries.specs.Field.{Fails}
+use Rattle.gate_entries.specs.Reading.{whole_entry}
+use Rattle.gate_entries.proofs.Entries.{entry_found, entry_again}
 use Rattle.gate_entries.proofs.reading.read_entry.Goals as goal
 
 pub returns-in-Ok-clause-found : goal.returns-in-Ok-clause-found
