@@ -1,0 +1,4 @@
+pub mod Lookups
+pub mod Evidence
+pub mod Caa
+pub mod Noting
