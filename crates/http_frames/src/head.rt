@@ -1,0 +1,45 @@
+//! The head at the front of bytes.
+ghost use Rattle.std.specs.Prelude.{◌≡◌, ◌≤◌, length};
+ghost use Rattle.http_frames.specs.Head.{TellsHead, window};
+
+use httparse::spans::{HeaderSpan, RequestSpans, parse_request};
+use httparse::{Error, Status};
+
+/// The most bytes of a head.
+const HEAD_LIMIT: usize = 8_192;
+
+/// More header lines than a head of `HEAD_LIMIT` bytes can have.
+pub const HEADER_ROOM: usize = 4_096;
+
+/// What stands at the front.
+pub enum HeadFound {
+    Whole(RequestSpans),
+    Unfinished,
+    /// No head, whatever bytes follow.
+    Never,
+}
+
+/// The bytes at the front that a head can have.
+pub fn window_of(bytes: &[u8]) -> &[u8]
+    ensures { result.now ≡ window bytes.now }
+{
+    match bytes.split_at_checked(HEAD_LIMIT) {
+        Some((window, _)) => window,
+        None => bytes,
+    }
+}
+
+/// The head at the front of the bytes, of which the window shows as many as a head can have.
+pub fn find_head(bytes: &[u8], window: &[u8], room: &mut [HeaderSpan]) -> HeadFound
+    requires window { window.now ≡ window bytes.now }
+    requires room { length room.old ≡ 4096 }
+    ensures { TellsHead bytes.now room.new result }
+{
+    match parse_request(window, room) {
+        Ok(Status::Complete(spans)) => HeadFound::Whole(spans),
+        Ok(Status::Partial) if bytes.len() > HEAD_LIMIT => HeadFound::Never,
+        Ok(Status::Partial) => HeadFound::Unfinished,
+        Err(Error::TooManyHeaders) => unreachable!(),
+        Err(_) => HeadFound::Never,
+    }
+}
