@@ -1,6 +1,7 @@
 -- Bytes stand for one front at most.
 use Rattle.std.proofs.Common.{◌≡◌, ◌≢◌, ℕ, ◌+◌, ◌-◌, ◌<◌, ◌≤◌, ◌⊎◌, inl, inr, List, [], ◌∷◌, ◌++◌, length, take, drop, refl, sym, ap, subst, ◌∙◌, append_assoc, arith, length-append}
-use Rattle.std.proofs.lemmas.List.{take_at, take-append-add}
+use lib.Seq.{take-append-add}
+use Rattle.std.proofs.lemmas.List.{take_at}
 use Rattle.httparse.specs.Grammar.{RequestHead, print_request, ReadsRequest, HasNoRequest, EndsInTarget}
 use Rattle.httparse.proofs.GrammarLemmas.{request_unique, ReadsRequest-append}
 use Rattle.http_frames.specs.declared.fields.Framing.{Framing}
@@ -13,14 +14,14 @@ use Rattle.http_frames.specs.Frames.{head_limit, body_limit, fields_of, message_
 -- ---- a head at the front
 
 -- what a body of this size makes of what stands behind the head
-BodyFront : RequestHead → List ℕ → ℕ → Front → Type 0
+abbrev BodyFront : RequestHead → List ℕ → ℕ → Front → Type 0
 BodyFront head rest size (fronts.Message message used) =
     (size ≤ length rest) × (size ≤ body_limit) × (message ≡ message_of head (take size rest)) × (used ≡ length (print_request head) + size)
 BodyFront head rest size (fronts.TooLarge used) = (size ≤ length rest) × (body_limit < size) × (used ≡ length (print_request head) + size)
 BodyFront head rest size (fronts.Unframed status) = ⊥
 BodyFront head rest size fronts.Unfinished = length rest < size
 
-HeadFront : RequestHead → List ℕ → Framing → Front → Type 0
+abbrev HeadFront : RequestHead → List ℕ → Framing → Front → Type 0
 HeadFront head rest (Refused status) front = front ≡ fronts.Unframed status
 HeadFront head rest (Body size) front = BodyFront head rest size front
 
@@ -31,12 +32,12 @@ record HeadSays (bytes : List ℕ) (front : Front) : Type 0 where
   says : HeadFront head rest (framing_of (fields_of head)) front
 
 one_body : (head : RequestHead) (rest : List ℕ) (size : ℕ) (left right : Front) → BodyFront head rest size left → BodyFront head rest size right → left ≡ right
-one_body head rest size (fronts.Message m used) (fronts.Message n also) x y = cc (x.1.1.0, y.1.1.0, x.1.1.1, y.1.1.1)
-one_body head rest size (fronts.Message m used) (fronts.TooLarge also) x y = absurd (omega (arith, x.1.0, y.1.0))
+one_body head rest size (fronts.Message m used) (fronts.Message n also) x y = cc (x.2, y.2, x.3, y.3)
+one_body head rest size (fronts.Message m used) (fronts.TooLarge also) x y = absurd (omega (arith, x.1, y.1))
 one_body head rest size (fronts.Message m used) (fronts.Unframed status) x y = absurd y
 one_body head rest size (fronts.Message m used) fronts.Unfinished x y = absurd (omega (arith, x.0, y))
-one_body head rest size (fronts.TooLarge used) (fronts.Message n also) x y = absurd (omega (arith, x.1.0, y.1.0))
-one_body head rest size (fronts.TooLarge used) (fronts.TooLarge also) x y = cc (x.1.1, y.1.1)
+one_body head rest size (fronts.TooLarge used) (fronts.Message n also) x y = absurd (omega (arith, x.1, y.1))
+one_body head rest size (fronts.TooLarge used) (fronts.TooLarge also) x y = cc (x.2, y.2)
 one_body head rest size (fronts.TooLarge used) (fronts.Unframed status) x y = absurd y
 one_body head rest size (fronts.TooLarge used) fronts.Unfinished x y = absurd (omega (arith, x.0, y))
 one_body head rest size (fronts.Unframed status) right x y = absurd x
@@ -71,13 +72,13 @@ no_head_at bytes head rest none at = elim none [
 
 not_begun : (bytes : List ℕ) → IsNoHead bytes → IsHeadBegun bytes → (EndsInTarget bytes → ⊥) → ⊥
 not_begun bytes none begun closed = elim none [
-  | inl never ↦ elim begun.may [ inl may ↦ never may.0 may.1.0 [] may.1.1 | inr target ↦ closed target ]
+  | inl never ↦ elim begun.may [ inl may ↦ never may.0 may.1 [] may.2 | inr target ↦ closed target ]
   | inr long ↦ omega (arith, long.long, begun.short)
 ]
 
 -- ---- what stands is one of three
 
-Means : List ℕ → Front → Type 0
+abbrev Means : List ℕ → Front → Type 0
 Means bytes front = HeadSays bytes front ⊎ ((IsNoHead bytes × (front ≡ fronts.Unframed 400)) ⊎ (IsHeadBegun bytes × (front ≡ fronts.Unfinished)))
 
 framed_at : (bytes front rest : List ℕ) (head : RequestHead) (body : List ℕ) → IsFramed front head body → bytes ≡ front ++ rest → HeadAt bytes head (body ++ rest)

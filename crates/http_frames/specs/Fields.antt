@@ -1,5 +1,5 @@
 -- What the header fields of a message say: how long its body is, who sends it, and whether it is the last one.
-use Rattle.std.specs.Prelude.{ℕ, ◌<◌, List, [], ◌∷◌, length, codes, Bool, true, false, ◌&&◌, ◌||◌, Option, Some, None, if◌then◌else◌, nat_le, nat_lt}
+use Rattle.std.specs.Prelude.{ℕ, ◌<◌, List, [], ◌∷◌, length, codes, Bool, true, false, not, ◌&&◌, ◌||◌, Option, Some, None, if◌then◌else◌, nat_le, nat_lt}
 use Rattle.std.specs.List.{list_all}
 use Rattle.std.specs.Char.{is_ascii_digit}
 use Rattle.std.specs.Option.{is_some}
@@ -12,25 +12,37 @@ use Rattle.http_frames.specs.declared.fields.Framing.TheVariants.{Refused, Body}
 abbrev pub Fields : Type 0
 Fields = List (List ℕ × List ℕ)
 
--- the value of the first field of this name; names are compared without regard to case (RFC 9110, section 5.1)
+-- a name and a value
+abbrev pub Field : Type 0
+Field = List ℕ × List ℕ
+
+-- names are compared without regard to case (RFC 9110, section 5.1)
+abbrev pub has_name : List ℕ → Field → Bool
+has_name name field = str_eq_ignore_ascii_case name field.0
+
+-- the value of the first field of this name
 abbrev pub first_value : List ℕ → Fields → Option (List ℕ)
 first_value name [] = None
-first_value name (field ∷ fields) = if str_eq_ignore_ascii_case name field.0 then Some field.1 else first_value name fields
+first_value name (field ∷ fields) = if has_name name field then Some field.1 else first_value name fields
 
 abbrev pub has_field : List ℕ → Fields → Bool
 has_field name fields = is_some (first_value name fields)
 
--- each field of this name has this value, byte by byte
-abbrev pub all_have_value : List ℕ → List ℕ → Fields → Bool
-all_have_value name value [] = true
-all_have_value name value (field ∷ fields) =
-    if str_eq_ignore_ascii_case name field.0 then bytes_eq value field.1 && all_have_value name value fields else all_have_value name value fields
+-- the field has this name, and a value that differs in a byte
+abbrev pub differs : List ℕ → List ℕ → Field → Bool
+differs name value field = has_name name field && not (bytes_eq value field.1)
 
--- some field of this name has this value, without regard to case
-abbrev pub some_has_value : List ℕ → List ℕ → Fields → Bool
-some_has_value name value [] = false
-some_has_value name value (field ∷ fields) =
-    (str_eq_ignore_ascii_case name field.0 && str_eq_ignore_ascii_case value field.1) || some_has_value name value fields
+abbrev pub some_differs : List ℕ → List ℕ → Fields → Bool
+some_differs name value [] = false
+some_differs name value (field ∷ fields) = if differs name value field then true else some_differs name value fields
+
+-- the field has this name and this value, without regard to case
+abbrev pub agrees : List ℕ → List ℕ → Field → Bool
+agrees name value field = has_name name field && str_eq_ignore_ascii_case value field.1
+
+abbrev pub some_agrees : List ℕ → List ℕ → Fields → Bool
+some_agrees name value [] = false
+some_agrees name value (field ∷ fields) = if agrees name value field then true else some_agrees name value fields
 
 -- 1 to 19 digits
 abbrev pub is_size_text : List ℕ → Bool
@@ -40,7 +52,7 @@ is_size_text text = nat_le 1 (length text) && nat_le (length text) 19 && list_al
 abbrev pub size_of_values : Option (List ℕ) → Fields → Option ℕ
 size_of_values None fields = Some 0
 size_of_values (Some text) fields =
-    if is_size_text text && all_have_value (codes "content-length") text fields then Some (digits_value 10 text) else None
+    if is_size_text text && not (some_differs (codes "content-length") text fields) then Some (digits_value 10 text) else None
 
 abbrev pub body_size : Fields → Option ℕ
 body_size fields = size_of_values (first_value (codes "content-length") fields) fields
@@ -64,4 +76,4 @@ token_of = first_value (codes "x-gate-key")
 
 -- the sender closes behind this message (RFC 9112, section 9.6)
 abbrev pub is_last : Fields → Bool
-is_last = some_has_value (codes "connection") (codes "close")
+is_last = some_agrees (codes "connection") (codes "close")

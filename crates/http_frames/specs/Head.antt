@@ -11,19 +11,19 @@ use Rattle.http_frames.specs.declared.head.HeadFound.TheVariants as heads
 use Rattle.http_frames.specs.Frames.{head_limit, HeadAt, IsNoHead, IsHeadBegun}
 
 -- the bytes at the front that a head can have
-abbrev pub window : List ℕ → List ℕ
-window bytes = take head_limit bytes
+abbrev pub head_window : List ℕ → List ℕ
+head_window bytes = take head_limit bytes
 
 -- the spans are those of the head at the front
 pub record IsHeadOf (bytes : List ℕ) (room : List HeaderSpan) (spans : RequestSpans) (head : RequestHead) : Type 0 where
   pub at : HeadAt bytes head (drop spans.len bytes)
-  pub parts : IsRequestAt (window bytes) room spans head
+  pub parts : IsRequestAt (head_window bytes) room spans head
 
 -- the spans are those of a head, and lie within it
 pub record IsWhole (bytes : List ℕ) (room : List HeaderSpan) (spans : RequestSpans) : Type 0 where
   pub head : RequestHead
   pub is : IsHeadOf bytes room spans head
-  pub within : IsRequestWithin (window bytes) room spans
+  pub within : IsRequestWithin (head_window bytes) room spans
 
 abbrev pub TellsHead : List ℕ → List HeaderSpan → HeadFound → Type 0
 TellsHead bytes room (heads.Whole spans) = IsWhole bytes room spans

@@ -2,7 +2,7 @@
 ghost use Rattle.std.specs.Prelude.{◌≡◌, length, map, option_map, All, codes};
 ghost use Rattle.std.specs.Str.{bytes_eq, str_eq_ignore_ascii_case};
 ghost use Rattle.httparse.specs.Spans.{IsHeaderWithin, header_bytes};
-ghost use Rattle.http_frames.specs.Fields.{first_value, has_field, all_have_value, some_has_value, body_size, is_encoded, framing_of};
+ghost use Rattle.http_frames.specs.Fields.{first_value, has_field, has_name, differs, some_differs, agrees, some_agrees, body_size, is_encoded, framing_of};
 
 use crate::size::read_size;
 use httparse::spans::HeaderSpan;
@@ -52,10 +52,10 @@ fn body_size(head: &[u8], headers: &[HeaderSpan]) -> Option<u64>
         return Some(0);
     };
     let size = read_size(text)?;
-    if all_have_value(head, headers, b"content-length", text) {
-        Some(size)
-    } else {
+    if some_differs(head, headers, b"content-length", text) {
         None
+    } else {
+        Some(size)
     }
 }
 
@@ -80,7 +80,7 @@ pub fn first_value<'a>(head: &'a [u8], headers: &[HeaderSpan], name: &[u8]) -> O
 {
     let mut rest = headers;
     while let Some((header, later)) = rest.split_first() {
-        if is_same_text(name, header.name.of(head)) {
+        if has_name(head, header, name) {
             return Some(header.value.of(head));
         }
         rest = later;
@@ -88,34 +88,55 @@ pub fn first_value<'a>(head: &'a [u8], headers: &[HeaderSpan], name: &[u8]) -> O
     None
 }
 
-/// Whether each field of this name has this value.
-fn all_have_value(head: &[u8], headers: &[HeaderSpan], name: &[u8], value: &[u8]) -> bool
+/// Whether some field of this name has a value that differs from this one in a byte.
+fn some_differs(head: &[u8], headers: &[HeaderSpan], name: &[u8], value: &[u8]) -> bool
     requires { All (IsHeaderWithin (length head.now)) headers.now }
-    ensures { result ≡ all_have_value name.now value.now (map (header_bytes head.now) headers.now) }
+    ensures { result ≡ some_differs name.now value.now (map (header_bytes head.now) headers.now) }
 {
     let mut rest = headers;
     while let Some((header, later)) = rest.split_first() {
-        if is_same_text(name, header.name.of(head)) && !are_same(value, header.value.of(head)) {
-            return false;
-        }
-        rest = later;
-    }
-    true
-}
-
-/// Whether some field of this name has this value, without regard to case.
-pub fn some_has_value(head: &[u8], headers: &[HeaderSpan], name: &[u8], value: &[u8]) -> bool
-    requires { All (IsHeaderWithin (length head.now)) headers.now }
-    ensures { result ≡ some_has_value name.now value.now (map (header_bytes head.now) headers.now) }
-{
-    let mut rest = headers;
-    while let Some((header, later)) = rest.split_first() {
-        if is_same_text(name, header.name.of(head)) && is_same_text(value, header.value.of(head)) {
+        if differs(head, header, name, value) {
             return true;
         }
         rest = later;
     }
     false
+}
+
+/// Whether some field of this name has this value, without regard to case.
+pub fn some_agrees(head: &[u8], headers: &[HeaderSpan], name: &[u8], value: &[u8]) -> bool
+    requires { All (IsHeaderWithin (length head.now)) headers.now }
+    ensures { result ≡ some_agrees name.now value.now (map (header_bytes head.now) headers.now) }
+{
+    let mut rest = headers;
+    while let Some((header, later)) = rest.split_first() {
+        if agrees(head, header, name, value) {
+            return true;
+        }
+        rest = later;
+    }
+    false
+}
+
+fn has_name(head: &[u8], header: &HeaderSpan, name: &[u8]) -> bool
+    requires { IsHeaderWithin (length head.now) header.now }
+    ensures { result ≡ has_name name.now (header_bytes head.now header.now) }
+{
+    is_same_text(name, header.name.of(head))
+}
+
+fn differs(head: &[u8], header: &HeaderSpan, name: &[u8], value: &[u8]) -> bool
+    requires { IsHeaderWithin (length head.now) header.now }
+    ensures { result ≡ differs name.now value.now (header_bytes head.now header.now) }
+{
+    has_name(head, header, name) && !are_same(value, header.value.of(head))
+}
+
+fn agrees(head: &[u8], header: &HeaderSpan, name: &[u8], value: &[u8]) -> bool
+    requires { IsHeaderWithin (length head.now) header.now }
+    ensures { result ≡ agrees name.now value.now (header_bytes head.now header.now) }
+{
+    has_name(head, header, name) && is_same_text(value, header.value.of(head))
 }
 
 /// Whether two texts are the same without regard to case.

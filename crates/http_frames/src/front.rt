@@ -2,9 +2,9 @@
 ghost use Rattle.std.specs.Prelude.{◌≡◌, length, IfOk, All, option_map};
 ghost use Rattle.httparse.specs.Spans.{IsHeaderWithin, IsWithin};
 ghost use Rattle.http_frames.specs.Frames.{Stands};
-ghost use Rattle.http_frames.specs.Head.{IsWhole, window, message_at};
+ghost use Rattle.http_frames.specs.Head.{IsWhole, head_window, message_at};
 
-use crate::fields::{Framing, first_value, framing_of, some_has_value};
+use crate::fields::{Framing, first_value, framing_of, some_agrees};
 use crate::head::{HeadFound, find_head, window_of};
 use crate::message::Message;
 use gate_base::{Bytes, NoMemory};
@@ -48,7 +48,7 @@ fn behind_head(
     room: &[HeaderSpan],
     spans: &RequestSpans,
 ) -> Result<Front, NoMemory>
-    requires window { window.now ≡ window bytes.now }
+    requires window { window.now ≡ head_window bytes.now }
     requires whole { IsWhole bytes.now room.now spans.now }
     ensures { IfOk result (Stands bytes.now) }
 {
@@ -88,7 +88,7 @@ fn message_at(
     let path = Bytes::from_slice(alloc, spans.path.of(window))?;
     let token = copied(alloc, first_value(window, headers, b"x-gate-key"))?;
     let body = Bytes::from_slice(alloc, body)?;
-    let last = some_has_value(window, headers, b"connection", b"close");
+    let last = some_agrees(window, headers, b"connection", b"close");
     Ok(Message {
         method,
         path,
@@ -99,7 +99,7 @@ fn message_at(
 }
 
 fn copied(alloc: Global, value: Option<&[u8]>) -> Result<Option<Bytes>, NoMemory>
-    ensures { IfOk result (λ copy. copy ≡ option_map (λ bytes. bytes.now) value) }
+    ensures { IfOk result (λ copy. copy ≡ option_map (λ bytes. bytes.now) value.entry) }
 {
     match value {
         Some(bytes) => Ok(Some(Bytes::from_slice(alloc, bytes)?)),

@@ -1,6 +1,6 @@
 //! The head at the front of bytes.
 ghost use Rattle.std.specs.Prelude.{◌≡◌, ◌≤◌, length};
-ghost use Rattle.http_frames.specs.Head.{TellsHead, window};
+ghost use Rattle.http_frames.specs.Head.{TellsHead, head_window};
 
 use httparse::spans::{HeaderSpan, RequestSpans, parse_request};
 use httparse::{Error, Status};
@@ -20,18 +20,22 @@ pub enum HeadFound {
 }
 
 /// The bytes at the front that a head can have.
+#[tactic(auto, using(crate::proofs::HeadLemmas::whole_window))]
 pub fn window_of(bytes: &[u8]) -> &[u8]
-    ensures { result.now ≡ window bytes.now }
+    ensures { result.now ≡ head_window bytes.now }
 {
-    match bytes.split_at_checked(HEAD_LIMIT) {
-        Some((window, _)) => window,
-        None => bytes,
+    if bytes.len() <= HEAD_LIMIT {
+        bytes
+    } else {
+        let (window, _) = bytes.split_at(HEAD_LIMIT);
+        window
     }
 }
 
 /// The head at the front of the bytes, of which the window shows as many as a head can have.
+#[tactic(auto, using(crate::proofs::HeadLemmas::no_more_lines, crate::proofs::HeadLemmas::whole_found, crate::proofs::HeadLemmas::long_found, crate::proofs::HeadLemmas::begun_found, crate::proofs::HeadLemmas::never_found))]
 pub fn find_head(bytes: &[u8], window: &[u8], room: &mut [HeaderSpan]) -> HeadFound
-    requires window { window.now ≡ window bytes.now }
+    requires window { window.now ≡ head_window bytes.now }
     requires room { length room.old ≡ 4096 }
     ensures { TellsHead bytes.now room.new result }
 {

@@ -1,5 +1,7 @@
 //! The number of bytes that a field's value says.
 ghost use Rattle.std.specs.Prelude.{◌≡◌, Some, None, if◌then◌else◌, IsTrue};
+ghost use Rattle.std.specs.List.{list_all};
+ghost use Rattle.std.specs.Char.{is_ascii_digit};
 ghost use Rattle.std.specs.Str.Parse.{digits_value};
 ghost use Rattle.http_frames.specs.Fields.{is_size_text};
 
@@ -23,7 +25,13 @@ fn is_size_text(text: &[u8]) -> bool
     ensures { result ≡ is_size_text text.now }
 {
     let digits = text.len();
-    1 <= digits && digits <= DIGIT_LIMIT && text.iter().all(|byte| byte.is_ascii_digit())
+    1 <= digits && digits <= DIGIT_LIMIT && are_digits(text)
+}
+
+fn are_digits(text: &[u8]) -> bool
+    ensures { result ≡ list_all is_ascii_digit text.now }
+{
+    text.iter().all(|byte| byte.is_ascii_digit())
 }
 
 fn value_of(digits: &[u8]) -> u64
