@@ -4,3 +4,4 @@ pub mod FieldLemmas
 pub mod HeadLemmas
 pub mod FrameLemmas
 pub mod OneFront
+pub mod Streams
