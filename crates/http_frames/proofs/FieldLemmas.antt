@@ -1,5 +1,5 @@
 -- Fields that are looked through one after another.
-use Rattle.std.proofs.Common.{◌≡◌, ℕ, false, List, ◌∷◌, map, refl, ap, ◌∙◌, Option}
+use Rattle.std.proofs.Common.{◌≡◌, ℕ, false, List, ◌∷◌, map, refl, ap, ◌∙◌}
 use Rattle.httparse.specs.Spans.{header_bytes}
 use Rattle.httparse.specs.declared.spans.HeaderSpan.{HeaderSpan}
 use Rattle.http_frames.specs.Fields.{Fields, has_name, first_value, differs, some_differs, agrees, some_agrees}

@@ -1,19 +1,18 @@
 -- What stands at the front of bytes: one thing, which stays whatever follows.
-use Rattle.std.proofs.Common.{◌≡◌, ◌≢◌, ℕ, ◌+◌, ◌-◌, ◌<◌, ◌≤◌, ◌⊎◌, inl, inr, List, [], ◌∷◌, ◌++◌, length, take, drop, map, refl, sym, ap, subst, ◌∙◌, append_assoc, append-nil, arith, length-append}
-use Rattle.std.proofs.lemmas.List.{take_all, take_at, drop_at, take-append-drop, take-append-le, length-take-le, length-drop}
-use Rattle.httparse.specs.Grammar.{RequestHead, print_request, ReadsRequest, HasNoRequest, NeverHasRequest, EndsInTarget}
-use Rattle.httparse.specs.Spans.{header_bytes, name_and_value}
+use Rattle.std.proofs.Common.{◌≡◌, ℕ, ◌+◌, ◌<◌, ◌≤◌, inl, inr, List, ◌++◌, length, take, drop, map, refl, sym, ap, subst, ◌∙◌, append_assoc, arith, length-append}
+use Rattle.std.proofs.lemmas.List.{take-append-drop, take-append-le, length-take-le}
+use Rattle.httparse.specs.Grammar.{RequestHead, print_request, ReadsRequest, HasNoRequest, NeverHasRequest}
+use Rattle.httparse.specs.Spans.{header_bytes}
 use Rattle.httparse.specs.declared.spans.HeaderSpan.{HeaderSpan}
 use Rattle.httparse.specs.declared.spans.RequestSpans.{RequestSpans}
-use Rattle.httparse.proofs.GrammarLemmas.{request_unique, ReadsRequest-append}
+use Rattle.httparse.proofs.GrammarLemmas.{ReadsRequest-append}
 use Rattle.http_frames.specs.declared.fields.Framing.{Framing}
 use Rattle.http_frames.specs.declared.fields.Framing.TheVariants.{Refused, Body}
-use Rattle.http_frames.specs.declared.front.Front.{Front}
 use Rattle.http_frames.specs.declared.front.Front.TheVariants as fronts
 use Rattle.http_frames.specs.declared.message.Message.{Message}
-use Rattle.http_frames.specs.Fields.{Fields, framing_of}
-use Rattle.http_frames.specs.Frames.{head_limit, body_limit, fields_of, message_of, IsFramed, HeadAt, IsTooLong, IsNoHead, IsUnframed, IsHeadBegun, IsUnfinished, MessageAt, TooLargeAt, Stands, AtMostOneFront, FrontsStay}
-use Rattle.http_frames.specs.Head.{head_window, IsHeadOf, IsWhole, message_at}
+use Rattle.http_frames.specs.Fields.{framing_of}
+use Rattle.http_frames.specs.Frames.{head_limit, body_limit, fields_of, IsFramed, HeadAt, IsTooLong, IsUnframed, IsUnfinished, MessageAt, TooLargeAt, FrontsStay}
+use Rattle.http_frames.specs.Head.{head_window, IsWhole, message_at}
 
 -- ---- what was read of the window
 

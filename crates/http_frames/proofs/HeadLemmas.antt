@@ -1,15 +1,20 @@
 -- Heads at the front of bytes, and the bytes that a head can have.
-use Rattle.std.proofs.Common.{◌≡◌, ℕ, suc, ◌+◌, ◌-◌, ◌*◌, ◌<◌, ◌≤◌, inl, inr, List, [], ◌∷◌, ◌++◌, length, take, drop, map, refl, sym, ap, subst, ◌∙◌, append_assoc, append-nil, arith, length-append}
+use Rattle.std.proofs.Common.{◌≡◌, ◌≢◌, ◌⊎◌, ℕ, ◌*◌, ◌<◌, ◌≤◌, inl, inr, List, [], ◌∷◌, ◌++◌, length, drop, refl, sym, ap, subst, ◌∙◌, append_assoc, arith, length-append}
 use Rattle.std.specs.List.{flat_map}
-use Rattle.std.specs.Prelude.{All}
-use Rattle.std.proofs.lemmas.List.{take_all, take-append-drop, take-append-le, drop-append-le, length-take, length-take-le, length-drop}
+use Rattle.std.specs.Prelude.{All, Result, Ok, Err}
+use Rattle.std.proofs.lemmas.List.{take_all, take-append-drop, drop-append-le, length-take}
 use Rattle.std.proofs.lemmas.List.Elements.{All-head, All-tail, All-weaker}
 use Rattle.httparse.specs.Grammar.{LineEnd, Field, IsField, print_field, print_end, print_section, print_blank, print_version, RequestHead, print_request, ReadsRequest, HasNoRequest, NeverHasRequest, MayBecomeRequest}
-use Rattle.httparse.specs.Spans.{RequestExceeds, IsHeaderWithin, IsRequestAt, IsRequestOf, IsRequestWithin, header_bytes, name_and_value}
+use Rattle.httparse.specs.Spans.{RequestExceeds, IsHeaderWithin, IsRequestAt, IsRequestOf, IsRequestWithin}
 use Rattle.httparse.specs.declared.spans.HeaderSpan.{HeaderSpan}
 use Rattle.httparse.specs.declared.spans.RequestSpans.{RequestSpans}
 use Rattle.httparse.proofs.GrammarLemmas.{ReadsRequest-append, print_request-append}
-use Rattle.http_frames.specs.Frames.{head_limit, HeadAt, IsNoHead, IsHeadBegun}
+use Rattle.httparse.specs.Outcome.{IfComplete, OnPartial, OnInvalid, OnTooManyHeaders}
+use Rattle.httparse.specs.declared.Error.{Error}
+use Rattle.httparse.specs.declared.Error.TheVariants as errors
+use Rattle.httparse.specs.declared.Status.{Status}
+use Rattle.httparse.specs.declared.Status.TheVariants.{Complete, Partial}
+use Rattle.http_frames.specs.Frames.{head_limit, IsNoHead, IsHeadBegun}
 use Rattle.http_frames.specs.Head.{head_window, IsHeadOf, IsWhole}
 
 -- ---- the window
@@ -77,7 +82,7 @@ too_many bytes exceeds = omega (
 )
 
 -- a head can't have 4,097 lines
-pub no_more_lines : (bytes window : List ℕ) (room : ℕ) → window ≡ head_window bytes → room ≡ 4096 → RequestExceeds room window → ⊥
+no_more_lines : (bytes window : List ℕ) (room : ℕ) → window ≡ head_window bytes → room ≡ 4096 → RequestExceeds room window → ⊥
 no_more_lines bytes window room same is exceeds =
     too_many bytes (subst (λ (n : ℕ). RequestExceeds n (head_window bytes)) is (subst (λ (w : List ℕ). RequestExceeds room w) same exceeds))
 
@@ -100,25 +105,54 @@ head_at bytes room spans head within parts =
       parts = parts;
     }
 
+is_too_many : (error : Error) → (error ≡ errors.TooManyHeaders) ⊎ (error ≢ errors.TooManyHeaders)
+is_too_many errors.TooManyHeaders = inl refl
+is_too_many errors.HeaderName = inr (λ e. cc e)
+is_too_many errors.HeaderValue = inr (λ e. cc e)
+is_too_many errors.NewLine = inr (λ e. cc e)
+is_too_many errors.Status = inr (λ e. cc e)
+is_too_many errors.Token = inr (λ e. cc e)
+is_too_many errors.Version = inr (λ e. cc e)
+
 -- ---- what the parser told
 
-pub whole_found : (bytes window : List ℕ) (room : List HeaderSpan) (spans : RequestSpans) → window ≡ head_window bytes → IsRequestWithin window room spans
-    → IsRequestOf window room spans → IsWhole bytes room spans
-whole_found bytes window room spans same within found =
-    let is : IsRequestAt (head_window bytes) room spans found.0 = subst (λ (w : List ℕ). IsRequestAt w room spans found.0) same found.1 in
-    let inside : IsRequestWithin (head_window bytes) room spans = subst (λ (w : List ℕ). IsRequestWithin w room spans) same within in
-    record { head = found.0; is = head_at bytes room spans found.0 inside.section.len_fits is; within = inside }
+if_complete : {A E : Type 0} (told : Result (Status A) E) (status : Status A) (value : A) (P : A → Type 0) → told ≡ Ok status → status ≡ Complete value → IfComplete told P → P value
+if_complete {A = A} {E = E} told status value P is also holds = subst (λ (t : Result (Status A) E). IfComplete t P) (is ∙ ap (λ (s : Status A). Ok s) also) holds
 
-pub long_found : (bytes window : List ℕ) → window ≡ head_window bytes → head_limit < length bytes → HasNoRequest window → IsNoHead bytes
-long_found bytes window same long none = inr (record { long = long; none = subst (λ (w : List ℕ). HasNoRequest w) same none })
+on_partial : {A E : Type 0} (told : Result (Status A) E) (status : Status A) (P : Type 0) → told ≡ Ok status → status ≡ Partial → OnPartial told P → P
+on_partial {A = A} {E = E} told status P is also holds = subst (λ (t : Result (Status A) E). OnPartial t P) (is ∙ ap (λ (s : Status A). Ok s) also) holds
 
-pub begun_found : (bytes window : List ℕ) → window ≡ head_window bytes → length bytes ≤ head_limit → HasNoRequest window → MayBecomeRequest window → IsHeadBegun bytes
-begun_found bytes window same short none may =
-    let all : window ≡ bytes = same ∙ sym (whole_window bytes short) in
-    record { short = short; none = subst (λ (w : List ℕ). HasNoRequest w) all none; may = subst (λ (w : List ℕ). MayBecomeRequest w) all may }
+module _ (bytes window : List ℕ) (same : window ≡ head_window bytes) (told : Result (Status RequestSpans) Error) where
+  pub whole_found : (room : List HeaderSpan) (status : Status RequestSpans) (spans : RequestSpans) → told ≡ Ok status → status ≡ Complete spans
+      → IfComplete told (IsRequestWithin window room) → IfComplete told (IsRequestOf window room) → IsWhole bytes room spans
+  whole_found room status spans is also inside parts =
+      let found = if_complete told status spans (IsRequestOf window room) is also parts in
+      let within : IsRequestWithin (head_window bytes) room spans =
+      subst (λ (w : List ℕ). IsRequestWithin w room spans) same (if_complete told status spans (IsRequestWithin window room) is also inside) in
+      let at : IsRequestAt (head_window bytes) room spans found.0 = subst (λ (w : List ℕ). IsRequestAt w room spans found.0) same found.1 in
+      record { head = found.0; is = head_at bytes room spans found.0 within.section.len_fits at; within = within }
 
-pub never_found : (bytes window : List ℕ) → window ≡ head_window bytes → NeverHasRequest window → IsNoHead bytes
-never_found bytes window same never = inl (never_behind bytes (subst (λ (w : List ℕ). NeverHasRequest w) same never))
+  pub long_found : (status : Status RequestSpans) → told ≡ Ok status → status ≡ Partial → head_limit < length bytes → OnPartial told (HasNoRequest window) → IsNoHead bytes
+  long_found status is also long none =
+      inr (record { long = long; none = subst (λ (w : List ℕ). HasNoRequest w) same (on_partial told status (HasNoRequest window) is also none) })
+
+  pub begun_found : (status : Status RequestSpans) → told ≡ Ok status → status ≡ Partial → length bytes ≤ head_limit → OnPartial told (HasNoRequest window)
+      → OnPartial told (MayBecomeRequest window) → IsHeadBegun bytes
+  begun_found status is also short none may =
+      let all : window ≡ bytes = same ∙ sym (whole_window bytes short) in
+      record {
+        short = short;
+        none = subst (λ (w : List ℕ). HasNoRequest w) all (on_partial told status (HasNoRequest window) is also none);
+        may = subst (λ (w : List ℕ). MayBecomeRequest w) all (on_partial told status (MayBecomeRequest window) is also may);
+      }
+
+  pub never_found : (room : ℕ) (error : Error) → told ≡ Err error → room ≡ 4096 → OnInvalid told (NeverHasRequest window)
+      → OnTooManyHeaders told (RequestExceeds room window) → IsNoHead bytes
+  never_found room error is large invalid many =
+      let never : NeverHasRequest window = elim (is_too_many error) [
+        | inl lines ↦ absurd (no_more_lines bytes window room same large (many (is ∙ ap (λ (e : Error). Err e) lines)))
+        | inr other ↦ subst (λ (t : Result (Status RequestSpans) Error). OnInvalid t (NeverHasRequest window)) is invalid other
+      ] in inl (never_behind bytes (subst (λ (w : List ℕ). NeverHasRequest w) same never))
 
 -- spans within the first bytes are within all of them
 pub headers_within : (least most : ℕ) → least ≤ most → (headers : List HeaderSpan) → All (IsHeaderWithin least) headers → All (IsHeaderWithin most) headers

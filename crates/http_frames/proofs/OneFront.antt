@@ -1,8 +1,8 @@
 -- Bytes stand for one front at most.
-use Rattle.std.proofs.Common.{◌≡◌, ◌≢◌, ℕ, ◌+◌, ◌-◌, ◌<◌, ◌≤◌, ◌⊎◌, inl, inr, List, [], ◌∷◌, ◌++◌, length, take, drop, refl, sym, ap, subst, ◌∙◌, append_assoc, arith, length-append}
+use Rattle.std.proofs.Common.{◌≡◌, ℕ, ◌+◌, ◌-◌, ◌<◌, ◌≤◌, ◌⊎◌, inl, inr, List, [], ◌++◌, length, take, refl, sym, ap, subst, ◌∙◌, append_assoc, arith, length-append}
 use lib.Seq.{take-append-add}
 use Rattle.std.proofs.lemmas.List.{take_at}
-use Rattle.httparse.specs.Grammar.{RequestHead, print_request, ReadsRequest, HasNoRequest, EndsInTarget}
+use Rattle.httparse.specs.Grammar.{RequestHead, print_request, EndsInTarget}
 use Rattle.httparse.proofs.GrammarLemmas.{request_unique, ReadsRequest-append}
 use Rattle.http_frames.specs.declared.fields.Framing.{Framing}
 use Rattle.http_frames.specs.declared.fields.Framing.TheVariants.{Refused, Body}

@@ -1,14 +1,16 @@
 -- Bytes that pass a wire.
-use Rattle.std.proofs.Common.{◌≡◌, ℕ, ◌+◌, ◌≤◌, drop, take, List, [], ◌++◌, Option, Some, None, refl, sym, ap, subst, ◌∙◌, append_assoc, append-nil, length, length-append, arith}
+use Rattle.std.proofs.Common.{◌≡◌, ℕ, inl, inr, drop, List, [], ◌++◌, Option, Some, None, refl, sym, ap, subst, ◌∙◌, append_assoc, append-nil, length, length-append, arith}
 use Rattle.std.specs.Prelude.{IfSome}
 use Rattle.std.specs.Io.KnownBytes.{prepend_known, Consumes}
 use Rattle.plant.specs.Stream.{SourceTold}
-use Rattle.std.proofs.lemmas.List.{take_at, drop_at}
+use Rattle.std.proofs.lemmas.List.{drop_at}
 use Rattle.http_frames.specs.declared.message.Message.{Message}
 use Rattle.http_frames.specs.declared.wire.Got.{Got}
 use Rattle.http_frames.specs.declared.wire.Got.TheVariants as got
-use Rattle.http_frames.specs.Frames.{MessageAt, TooLargeAt, IsMessage, IsTooLarge, IsUnframed}
-use Rattle.http_frames.specs.Stream.{WireState, Passes, PassesSome, Takes, Tells, Grows, IsFront}
+use Rattle.http_frames.specs.Frames.{MessageAt, IsUnframed, Stands}
+use Rattle.http_frames.specs.declared.front.Front.{Front}
+use Rattle.http_frames.specs.declared.front.Front.TheVariants as fronts
+use Rattle.http_frames.specs.Stream.{GrowsSome, UsesUp, WireState, Passes, PassesSome, Takes, Tells, Grows, IsFront}
 use Rattle.http_frames.proofs.FrameLemmas.{unframed_stays}
 
 none_gone : (held : List ℕ) (left : Option (List ℕ)) → Consumes (prepend_known held left) (prepend_known held left) []
@@ -55,7 +57,7 @@ gone_front held front rest None whole = tt
 gone_front held front rest (Some left) whole = ap (λ (t : List ℕ). t ++ left) whole ∙ append_assoc front rest left
 
 -- the bytes at the front are used up
-pub front_passes : (old new : WireState) (source : SourceTold) (front rest : List ℕ) (used : ℕ) → old.held ≡ front ++ rest → length front ≡ used
+front_passes : (old new : WireState) (source : SourceTold) (front rest : List ℕ) (used : ℕ) → old.held ≡ front ++ rest → length front ≡ used
     → new.held ≡ drop used old.held → new.taken ≡ old.taken → Passes old source new source front
 front_passes old new source front rest used whole long last taken =
     let behind : new.held ≡ rest = last ∙ ap (λ (t : List ℕ). drop used t) whole ∙ drop_at front rest used long in record {
@@ -67,7 +69,7 @@ unframed_known : (held : List ℕ) (left : Option (List ℕ)) (status : ℕ) →
 unframed_known held None status unframed = tt
 unframed_known held (Some more) status unframed = unframed_stays held more status unframed
 
-pub tells_unframed : (wire : WireState) (source source' : SourceTold) (status : ℕ) → IsUnframed wire.held status → Tells (got.Unframed status) wire source source'
+tells_unframed : (wire : WireState) (source source' : SourceTold) (status : ℕ) → IsUnframed wire.held status → Tells (got.Unframed status) wire source source'
 tells_unframed wire source source' status unframed = (unframed, unframed_known wire.held source'.left status unframed)
 
 -- ---- what was taken from the source
@@ -79,7 +81,7 @@ none_left (Some left) = refl
 pub grows_none : (wire : WireState) (source : SourceTold) → Grows wire source wire source []
 grows_none wire source = record { held = sym (append-nil wire.held); taken = omega arith; from = none_left source.left }
 
-pub grows_more : (old mid new : WireState) (source source' source'' : SourceTold) (left right : List ℕ) → Grows old source mid source' left
+grows_more : (old mid new : WireState) (source source' source'' : SourceTold) (left right : List ℕ) → Grows old source mid source' left
     → Grows mid source' new source'' right → Grows old source new source'' (left ++ right)
 grows_more old mid new source source' source'' left right first second = record {
   held = second.held ∙ ap (λ (t : List ℕ). t ++ right) first.held ∙ append_assoc old.held left right;
@@ -93,7 +95,7 @@ moved held (Some left) None piece from = absurd from
 moved held (Some left) (Some left') piece from = ap (λ (t : List ℕ). held ++ t) from ∙ sym (append_assoc held piece left')
 
 -- what moves from the source to the wire stays in the stream
-pub grows_passes : (old new : WireState) (source source' : SourceTold) (piece : List ℕ) → Grows old source new source' piece → Passes old source new source' []
+grows_passes : (old new : WireState) (source source' : SourceTold) (piece : List ℕ) → Grows old source new source' piece → Passes old source new source' []
 grows_passes old new source source' piece grows = record {
   gone = subst (λ (t : List ℕ). Consumes (prepend_known old.held source.left) (prepend_known t source'.left) []) (sym grows.held)
       (moved old.held source.left source'.left piece grows.from);
@@ -109,3 +111,32 @@ front_of_left (Some left) (Some left') piece from = record { rest = left'; whole
 pub record GrowsBefore (old : WireState) (source : SourceTold) (new : WireState) (source' : SourceTold) : Type 0 where
   pub before : List ℕ
   pub grows : Grows old source new source' before
+
+-- a piece more was taken
+pub grows_on : (old mid new : WireState) (source source' source'' : SourceTold) → GrowsBefore old source mid source' → GrowsSome mid source' new source''
+    → GrowsBefore old source new source''
+grows_on old mid new source source' source'' first second =
+    record { before = first.before ++ second.piece; grows = grows_more old mid new source source' source'' first.before second.piece first.grows second.grows }
+
+pub before_passes : (old new : WireState) (source source' : SourceTold) → GrowsBefore old source new source' → Passes old source new source' []
+before_passes old new source source' first = grows_passes old new source source' first.before first.grows
+
+-- ---- what was found in what is held
+
+pub message_taken : (bytes : List ℕ) (front : Front) (message : Message) (used : ℕ) (result : Got) (old new : WireState) (source : SourceTold) → bytes ≡ old.held
+    → front ≡ fronts.Message message used → Stands bytes front → UsesUp used (got.Message message) old new result → Takes result old source new source
+message_taken bytes front message used result old new source held is stands uses =
+    let at : MessageAt old.held message used = subst (λ (f : Front). Stands old.held f) is (subst (λ (b : List ℕ). Stands b front) held stands) in
+    elim uses [
+      | inl gone ↦ subst (λ (r : Got). Takes r old source new source) (sym gone.0) (record {
+        bytes = at.front;
+        is = at.is;
+        passes = front_passes old new source at.front at.rest used at.whole at.long (ap (λ (w : WireState). w.held) gone.1) (ap (λ (w : WireState). w.taken) gone.1);
+      })
+      | inr none ↦ subst (λ (r : Got). Takes r old source new source) (sym none.0) (subst (λ (w : WireState). Passes old source w source []) (sym none.1) (passes_none old source))
+    ]
+
+pub unframed_told : (bytes : List ℕ) (front : Front) (status : ℕ) (wire : WireState) (source source' : SourceTold) → bytes ≡ wire.held → front ≡ fronts.Unframed status
+    → Stands bytes front → Tells (got.Unframed status) wire source source'
+unframed_told bytes front status wire source source' held is stands =
+    tells_unframed wire source source' status (subst (λ (f : Front). Stands wire.held f) is (subst (λ (b : List ℕ). Stands b front) held stands))

@@ -1,10 +1,9 @@
 -- What stands at the front of the bytes that a sender writes: a message, one whose body is too large, one whose end can't be
 -- known, or the beginning of one (RFC 9112, sections 2 and 6).
-use Rattle.std.specs.Prelude.{◌≡◌, ◌≢◌, ℕ, ◌+◌, ◌<◌, ◌≤◌, ◌⊎◌, List, [], ◌++◌, length, take, map, Option, Some, None}
+use Rattle.std.specs.Prelude.{◌≡◌, ◌≢◌, ℕ, ◌<◌, ◌≤◌, ◌⊎◌, List, ◌++◌, length, take, map}
 use Rattle.httparse.specs.Grammar.{RequestHead, print_request, IsRequestHead, ReadsRequest, HasNoRequest, NeverHasRequest, MayBecomeRequest, EndsInTarget}
 use Rattle.httparse.specs.Spans.{name_and_value}
 use Rattle.http_frames.specs.declared.message.Message.{Message}
-use Rattle.http_frames.specs.declared.fields.Framing.{Framing}
 use Rattle.http_frames.specs.declared.fields.Framing.TheVariants.{Refused, Body}
 use Rattle.http_frames.specs.declared.front.Front.{Front}
 use Rattle.http_frames.specs.declared.front.Front.TheVariants as fronts

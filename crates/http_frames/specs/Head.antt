@@ -1,5 +1,5 @@
 -- What the parser of heads tells of the bytes at the front.
-use Rattle.std.specs.Prelude.{◌≡◌, ℕ, List, take, drop, map}
+use Rattle.std.specs.Prelude.{ℕ, List, take, drop, map}
 use Rattle.httparse.specs.Grammar.{RequestHead}
 use Rattle.httparse.specs.declared.spans.HeaderSpan.{HeaderSpan}
 use Rattle.httparse.specs.declared.spans.RequestSpans.{RequestSpans}

@@ -3,7 +3,6 @@ use Rattle.std.specs.Prelude.{◌≡◌, ℕ, ◌+◌, ◌≤◌, ◌^◌, ◌�
 use Rattle.std.specs.Io.KnownBytes.{prepend_known, Consumes, IsAtEnd}
 use Rattle.plant.specs.Causes.{Rose}
 use Rattle.plant.specs.Stream.{SourceTold}
-use Rattle.http_frames.specs.declared.message.Message.{Message}
 use Rattle.http_frames.specs.declared.wire.Got.{Got}
 use Rattle.http_frames.specs.declared.wire.Got.TheVariants as got
 use Rattle.http_frames.specs.declared.wire.More.{More}

@@ -2,8 +2,8 @@
 ghost use Rattle.std.specs.Prelude.{◌≡◌, ◌≤◌, length};
 ghost use Rattle.http_frames.specs.Head.{TellsHead, head_window};
 
+use httparse::Status;
 use httparse::spans::{HeaderSpan, RequestSpans, parse_request};
-use httparse::{Error, Status};
 
 /// The most bytes of a head.
 const HEAD_LIMIT: usize = 8_192;
@@ -33,7 +33,6 @@ pub fn window_of(bytes: &[u8]) -> &[u8]
 }
 
 /// The head at the front of the bytes, of which the window shows as many as a head can have.
-#[tactic(auto, using(crate::proofs::HeadLemmas::no_more_lines, crate::proofs::HeadLemmas::whole_found, crate::proofs::HeadLemmas::long_found, crate::proofs::HeadLemmas::begun_found, crate::proofs::HeadLemmas::never_found))]
 pub fn find_head(bytes: &[u8], window: &[u8], room: &mut [HeaderSpan]) -> HeadFound
     requires window { window.now ≡ head_window bytes.now }
     requires room { length room.old ≡ 4096 }
@@ -43,7 +42,6 @@ pub fn find_head(bytes: &[u8], window: &[u8], room: &mut [HeaderSpan]) -> HeadFo
         Ok(Status::Complete(spans)) => HeadFound::Whole(spans),
         Ok(Status::Partial) if bytes.len() > HEAD_LIMIT => HeadFound::Never,
         Ok(Status::Partial) => HeadFound::Unfinished,
-        Err(Error::TooManyHeaders) => unreachable!(),
         Err(_) => HeadFound::Never,
     }
 }

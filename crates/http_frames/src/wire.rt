@@ -1,5 +1,5 @@
 //! One message after another from a source.
-ghost use Rattle.std.specs.Prelude.{◌≡◌, ◌≤◌, [], length, drop, IfSome, OnNone};
+ghost use Rattle.std.specs.Prelude.{◌≡◌, ◌≤◌, [], length, drop, IfSome, IfNone};
 ghost use Rattle.http_frames.specs.Frames.{IsUnfinished};
 ghost use Rattle.http_frames.specs.Stream.{Takes, Tells, TakesNeeded, IsNeeded, Gives, UsesUp, most_taken};
 
@@ -75,10 +75,10 @@ impl Wire {
         ensures later { (S.told source.old).faults ≤ (S.told source.new).faults }
         ensures beside { S.beside source.new ≡ S.beside source.old }
     {
+        let _ = &self.taken;
         let Ok(mut room) = vec![in alloc; EMPTY_HEADER_SPAN; HEADER_ROOM] else {
             return Got::NoMemory;
         };
-        let _ = &self.taken;
         match self.read_held(alloc, source, &mut room) {
             Some(got) => got,
             None => self.read_later(alloc, source, &mut room),
@@ -95,8 +95,8 @@ impl Wire {
         requires { length room.old ≡ 4096 }
         ensures takes { IfSome result (λ got. Takes got self.old (S.told source.now) self.new (S.told source.now)) }
         ensures tells { IfSome result (λ got. Tells got self.new (S.told source.now) (S.told source.now)) }
-        ensures none { OnNone result (IsUnfinished self.old.held) }
-        ensures same { OnNone result (self.new ≡ self.old) }
+        ensures none { IfNone result (IsUnfinished self.old.held) }
+        ensures same { IfNone result (self.new ≡ self.old) }
         ensures taken { self.new.taken ≡ self.old.taken }
     {
         match find_front(alloc, &self.held, room) {
@@ -138,8 +138,9 @@ impl Wire {
                 More::TooMany => return Got::StreamLong,
                 More::NoMemory => return Got::NoMemory,
             }
-            if let Some(got) = self.read_held(alloc, source, room) {
-                return got;
+            match self.read_held(alloc, source, room) {
+                Some(got) => return got,
+                None => {}
             }
         }
     }
@@ -162,6 +163,7 @@ impl Wire {
     /// Takes some bytes more.
     fn take_more<S: Source>(&mut self, source: &mut S) -> More
         ensures gives { Gives result self.old (S.told source.old) self.new (S.told source.new) }
+        ensures fits { self.new.taken ≤ most_taken }
         ensures later { (S.told source.old).faults ≤ (S.told source.new).faults }
         ensures beside { S.beside source.new ≡ S.beside source.old }
     {
