@@ -1,16 +1,16 @@
 -- Bytes that pass a wire.
-use Rattle.std.proofs.Common.{◌≡◌, ℕ, inl, inr, drop, List, [], ◌++◌, Option, Some, None, refl, sym, ap, subst, ◌∙◌, append_assoc, append-nil, length, length-append, arith}
+use Rattle.std.proofs.Common.{◌≡◌, ℕ, ◌+◌, ◌-◌, ◌≤◌, drop, take, List, [], ◌++◌, Option, Some, None, refl, sym, ap, subst, ◌∙◌, append_assoc, append-nil, length, length-append, arith}
 use Rattle.std.specs.Prelude.{IfSome}
 use Rattle.std.specs.Io.KnownBytes.{prepend_known, Consumes}
 use Rattle.plant.specs.Stream.{SourceTold}
-use Rattle.std.proofs.lemmas.List.{drop_at}
+use Rattle.std.proofs.lemmas.List.{take_at, drop_at, length-drop}
 use Rattle.http_frames.specs.declared.message.Message.{Message}
 use Rattle.http_frames.specs.declared.wire.Got.{Got}
 use Rattle.http_frames.specs.declared.wire.Got.TheVariants as got
-use Rattle.http_frames.specs.Frames.{MessageAt, IsUnframed, Stands}
+use Rattle.http_frames.specs.Frames.{MessageAt, TooLargeAt, IsUnframed, Stands}
 use Rattle.http_frames.specs.declared.front.Front.{Front}
 use Rattle.http_frames.specs.declared.front.Front.TheVariants as fronts
-use Rattle.http_frames.specs.Stream.{GrowsSome, UsesUp, WireState, Passes, PassesSome, Takes, Tells, Grows, IsFront}
+use Rattle.http_frames.specs.Stream.{GrowsSome, WireState, Passes, PassesSome, Takes, Tells, Grows, IsFront}
 use Rattle.http_frames.proofs.FrameLemmas.{unframed_stays}
 
 none_gone : (held : List ℕ) (left : Option (List ℕ)) → Consumes (prepend_known held left) (prepend_known held left) []
@@ -123,18 +123,28 @@ before_passes old new source source' first = grows_passes old new source source'
 
 -- ---- what was found in what is held
 
-pub message_taken : (bytes : List ℕ) (front : Front) (message : Message) (used : ℕ) (result : Got) (old new : WireState) (source : SourceTold) → bytes ≡ old.held
-    → front ≡ fronts.Message message used → Stands bytes front → UsesUp used (got.Message message) old new result → Takes result old source new source
-message_taken bytes front message used result old new source held is stands uses =
+pub message_taken : (bytes : List ℕ) (front : Front) (message : Message) (used : ℕ) (old new : WireState) (source : SourceTold) → bytes ≡ old.held
+    → front ≡ fronts.Message message used → Stands bytes front → new ≡ record { held = drop used old.held; taken = old.taken } → Takes (got.Message message) old source new source
+message_taken bytes front message used old new source held is stands gone =
     let at : MessageAt old.held message used = subst (λ (f : Front). Stands old.held f) is (subst (λ (b : List ℕ). Stands b front) held stands) in
-    elim uses [
-      | inl gone ↦ subst (λ (r : Got). Takes r old source new source) (sym gone.0) (record {
-        bytes = at.front;
-        is = at.is;
-        passes = front_passes old new source at.front at.rest used at.whole at.long (ap (λ (w : WireState). w.held) gone.1) (ap (λ (w : WireState). w.taken) gone.1);
-      })
-      | inr none ↦ subst (λ (r : Got). Takes r old source new source) (sym none.0) (subst (λ (w : WireState). Passes old source w source []) (sym none.1) (passes_none old source))
-    ]
+    record {
+      bytes = at.front;
+      is = at.is;
+      passes = front_passes old new source at.front at.rest used at.whole at.long (ap (λ (w : WireState). w.held) gone) (ap (λ (w : WireState). w.taken) gone);
+    }
+
+pub large_taken : (bytes : List ℕ) (front : Front) (used : ℕ) (old new : WireState) (source : SourceTold) → bytes ≡ old.held → front ≡ fronts.TooLarge used
+    → Stands bytes front → new ≡ record { held = drop used old.held; taken = old.taken } → Takes got.TooLarge old source new source
+large_taken bytes front used old new source held is stands gone =
+    let at : TooLargeAt old.held used = subst (λ (f : Front). Stands old.held f) is (subst (λ (b : List ℕ). Stands b front) held stands) in
+    record {
+      bytes = at.front;
+      is = at.is;
+      passes = front_passes old new source at.front at.rest used at.whole at.long (ap (λ (w : WireState). w.held) gone) (ap (λ (w : WireState). w.taken) gone);
+    }
+
+pub front_dropped : (bytes : List ℕ) (used : ℕ) → used ≤ length bytes → take (length bytes - used) (drop used bytes ++ take used bytes) ≡ drop used bytes
+front_dropped bytes used within = take_at (drop used bytes) (take used bytes) (length bytes - used) (omega (arith, length-drop used bytes, within))
 
 pub unframed_told : (bytes : List ℕ) (front : Front) (status : ℕ) (wire : WireState) (source source' : SourceTold) → bytes ≡ wire.held → front ≡ fronts.Unframed status
     → Stands bytes front → Tells (got.Unframed status) wire source source'

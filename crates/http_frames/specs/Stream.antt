@@ -1,5 +1,5 @@
 -- The bytes that were taken from a source, and what stands next in them.
-use Rattle.std.specs.Prelude.{◌≡◌, ℕ, ◌+◌, ◌≤◌, ◌^◌, ◌⊎◌, List, [], ◌++◌, length, drop, IfSome, ⊤}
+use Rattle.std.specs.Prelude.{◌≡◌, ℕ, ◌+◌, ◌<◌, ◌≤◌, ◌^◌, ◌⊎◌, List, [], ◌++◌, length, IfSome, ⊤}
 use Rattle.std.specs.Io.KnownBytes.{prepend_known, Consumes, IsAtEnd}
 use Rattle.plant.specs.Causes.{Rose}
 use Rattle.plant.specs.Stream.{SourceTold}
@@ -44,11 +44,11 @@ Takes other old source new source' = Passes old source new source' []
 abbrev pub Tells : Got → WireState → SourceTold → SourceTold → Type 0
 Tells (got.Message message) new source source' = ⊤
 Tells got.TooLarge new source source' = ⊤
-Tells got.End new source source' = (new.held ≡ []) × IsAtEnd source'.left
+Tells got.End new source source' = (new.held ≡ []) × IsAtEnd source'.left × (new.taken < most_taken)
 Tells (got.Unframed status) new source source' = IsUnframed new.held status × IfSome source'.left (λ more. IsUnframed (new.held ++ more) status)
-Tells got.Truncated new source source' = IsUnfinished new.held × (1 ≤ length new.held) × IsAtEnd source'.left
+Tells got.Truncated new source source' = IsUnfinished new.held × (1 ≤ length new.held) × IsAtEnd source'.left × (new.taken < most_taken)
 Tells got.StreamLong new source source' = IsUnfinished new.held × (new.taken ≡ most_taken)
-Tells got.Fault new source source' = IsUnfinished new.held × Rose source.faults source'.faults
+Tells got.Fault new source source' = IsUnfinished new.held × Rose source.faults source'.faults × (new.taken < most_taken)
 Tells got.NoMemory new source source' = ⊤
 
 -- these bytes went from the source to the end of what is held
@@ -71,8 +71,8 @@ pub record GrowsSome (old : WireState) (source : SourceTold) (new : WireState) (
 -- what one call of the source gave: some bytes more, or nothing
 abbrev pub Gives : More → WireState → SourceTold → WireState → SourceTold → Type 0
 Gives mores.Bytes old source new source' = GrowsSome old source new source'
-Gives mores.End old source new source' = Grows old source new source' [] × IsAtEnd source'.left
-Gives mores.Fault old source new source' = Grows old source new source' [] × Rose source.faults source'.faults
+Gives mores.End old source new source' = Grows old source new source' [] × IsAtEnd source'.left × (old.taken < most_taken)
+Gives mores.Fault old source new source' = Grows old source new source' [] × Rose source.faults source'.faults × (old.taken < most_taken)
 Gives mores.TooMany old source new source' = Grows old source new source' [] × (old.taken ≡ most_taken)
 Gives mores.NoMemory old source new source' = Grows old source new source' []
 
@@ -86,8 +86,3 @@ pub record IsNeeded (old : WireState) (source : SourceTold) (new : WireState) : 
 -- the source wasn't read, or each piece of it was needed
 abbrev pub TakesNeeded : WireState → SourceTold → WireState → SourceTold → Type 0
 TakesNeeded old source new source' = ((source' ≡ source) × (new.taken ≡ old.taken)) ⊎ (IsUnfinished old.held × IsNeeded old source new)
-
--- this is answered, and so many bytes of what was held are gone; or there was no memory
-abbrev pub UsesUp : ℕ → Got → WireState → WireState → Got → Type 0
-UsesUp used found old new result =
-    ((result ≡ found) × (new ≡ record { held = drop used old.held; taken = old.taken })) ⊎ ((result ≡ got.NoMemory) × (new ≡ old))

@@ -267,3 +267,142 @@ fn messages_are_read_in_any_pieces(rt: HostRuntime) {
         }
     }
 }
+
+/// Some bytes, then others so many times, and then some more.
+fn joined(
+    rt: &impl Abort,
+    alloc: Global,
+    front: &[u8],
+    piece: &[u8],
+    count: usize,
+    back: &[u8],
+) -> Vec<u8> {
+    let mut out = Vec::new(alloc);
+    push(rt, &mut out, front);
+    for _ in 0..count {
+        push(rt, &mut out, piece);
+    }
+    push(rt, &mut out, back);
+    out
+}
+
+/// A front, what follows it so many times, and what comes last; and what is read of that.
+const LIMITS: &[(&[u8], &[u8], usize, &[u8], &[u8])] = &[
+    // header lines
+    (
+        b"GET / HTTP/1.1\r\n",
+        b"a:b\r\n",
+        64,
+        b"\r\n",
+        b"GET / - ;end",
+    ),
+    (b"GET / HTTP/1.1\r\n", b"a:b\r\n", 65, b"\r\n", b"400"),
+    (b"GET / HTTP/1.1\r\n", b"a:b\r\n", 65, b"", b"cut"),
+    (b"GET / HTTP/1.1\n", b"a:\n", 2_700, b"\n", b"400"),
+    // heads of 8,192 bytes and of one more, whole and unfinished
+    (
+        b"GET / HTTP/1.1\r\na:",
+        b"b",
+        8_170,
+        b"\r\n\r\n",
+        b"GET / - ;end",
+    ),
+    (b"GET / HTTP/1.1\r\na:", b"b", 8_171, b"\r\n\r\n", b"400"),
+    (b"GET / HTTP/1.1\r\na:", b"b", 8_174, b"", b"cut"),
+    (b"GET / HTTP/1.1\r\na:", b"b", 8_175, b"", b"400"),
+    (b"", b"\r\n", 4_096, b"", b"cut"),
+    (b"", b"\r\n", 4_096, b"\r", b"400"),
+    // bodies
+    (
+        b"POST / HTTP/1.1\r\ncontent-length: 65536\r\n\r\n",
+        b"x",
+        65_535,
+        b"",
+        b"cut",
+    ),
+    (
+        b"POST / HTTP/1.1\r\ncontent-length: 65537\r\n\r\n",
+        b"x",
+        65_536,
+        b"",
+        b"cut",
+    ),
+    (
+        b"POST / HTTP/1.1\r\nconnection: close\r\ncontent-length: 65537\r\n\r\n",
+        b"x",
+        65_537,
+        b"GET / HTTP/1.1\r\n\r\n",
+        b"large;GET / - ;end",
+    ),
+    (
+        b"POST / HTTP/1.1\r\ncontent-length: 180000\r\n\r\n",
+        b"GET / HTTP/1.1\r\n\r\n",
+        10_002,
+        b"",
+        b"large;GET / - ;GET / - ;end",
+    ),
+];
+
+#[test]
+fn limits_are_kept(rt: HostRuntime) {
+    let alloc = rt.alloc();
+    for (front, piece, count, back, want) in LIMITS {
+        let bytes = joined(&rt, alloc, front, piece, *count, back);
+        let out = told(&rt, alloc, &bytes, 4_096, Calls::new(alloc));
+        assert_eq!(rt; out.as_slice(), *want, "{count} pieces");
+    }
+    let whole = joined(
+        &rt,
+        alloc,
+        b"POST / HTTP/1.1\r\ncontent-length: 65536\r\n\r\n",
+        b"x",
+        65_536,
+        b"",
+    );
+    let out = told(&rt, alloc, &whole, 4_096, Calls::new(alloc));
+    assert_eq!(rt; out.len(), 65_536 + b"POST / - ;end".len());
+}
+
+#[test]
+fn a_message_is_cut_at_each_byte(rt: HostRuntime) {
+    let alloc = rt.alloc();
+    let bytes = b"\r\nPOST /a HTTP/1.1\r\nx-gate-key: k\r\ncontent-length: 3\r\n\r\nabc";
+    for cut in 1..bytes.len() {
+        let out = told(&rt, alloc, &bytes[..cut], 7, Calls::new(alloc));
+        assert_eq!(rt; out.as_slice(), b"cut".as_slice(), "{cut} bytes");
+    }
+    let out = told(&rt, alloc, bytes, 7, Calls::new(alloc));
+    assert_eq!(rt; out.as_slice(), b"POST /a k abc;end".as_slice());
+}
+
+#[test]
+fn a_fault_loses_nothing(rt: HostRuntime) {
+    let alloc = rt.alloc();
+    let text = b"GET / HTTP/1.1\r\n\r\nGET /b HTTP/1.1\r\n\r\n";
+    let bytes = Bytes::from_slice(alloc, text).expect(&rt, "memory");
+    let mut fails = Calls::new(alloc);
+    fails.push(2).expect(&rt, "memory");
+    let inner = MemorySource::new(bytes, fails);
+    let mut source = Pieces { inner, most: 30 };
+    let mut wire = Wire::new(alloc);
+    let first = wire.read_message(alloc, &mut source);
+    assert!(rt; matches!(&first, Got::Message(_)));
+    let second = wire.read_message(alloc, &mut source);
+    assert!(rt; matches!(&second, Got::Fault));
+    let third = wire.read_message(alloc, &mut source);
+    assert!(rt;
+        matches!(&third, Got::Message(message) if message.path.as_slice() == b"/b".as_slice())
+    );
+    let last = wire.read_message(alloc, &mut source);
+    assert!(rt; matches!(&last, Got::End));
+}
+
+#[test]
+fn what_is_held_is_read_first(rt: HostRuntime) {
+    let alloc = rt.alloc();
+    let text = b"GET / HTTP/1.1\r\n\r\nGET /b HTTP/1.1\r\n\r\n";
+    let mut fails = Calls::new(alloc);
+    fails.push(2).expect(&rt, "memory");
+    let out = told(&rt, alloc, text, 4_096, fails);
+    assert_eq!(rt; out.as_slice(), b"GET / - ;GET /b - ;fault".as_slice());
+}

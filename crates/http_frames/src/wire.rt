@@ -1,7 +1,7 @@
 //! One message after another from a source.
 ghost use Rattle.std.specs.Prelude.{◌≡◌, ◌≤◌, [], length, drop, IfSome, IfNone};
 ghost use Rattle.http_frames.specs.Frames.{IsUnfinished};
-ghost use Rattle.http_frames.specs.Stream.{Takes, Tells, TakesNeeded, IsNeeded, Gives, UsesUp, most_taken};
+ghost use Rattle.http_frames.specs.Stream.{Takes, Tells, TakesNeeded, IsNeeded, Gives, most_taken};
 
 use crate::front::{Front, find_front};
 use crate::head::HEADER_ROOM;
@@ -11,6 +11,7 @@ use httparse::spans::{EMPTY_HEADER_SPAN, HeaderSpan};
 use plant::{Source, TakeFault};
 use std::alloc::Global;
 use std::marker::Model;
+use std::mem;
 
 /// The most bytes that are taken without an end of input.
 const STREAM_LIMIT: u64 = 1 << 30;
@@ -41,6 +42,8 @@ pub enum Got {
 pub struct Wire {
     held: Vec<u8>,
     taken: u64,
+    /// Where the fields of a head are told.
+    room: Vec<HeaderSpan>,
 }
 
 impl Model for Wire {
@@ -62,6 +65,7 @@ impl Wire {
         Wire {
             held: Vec::new(alloc),
             taken: 0,
+            room: Vec::new(alloc),
         }
     }
 
@@ -76,13 +80,27 @@ impl Wire {
         ensures beside { S.beside source.new ≡ S.beside source.old }
     {
         let _ = &self.taken;
-        let Ok(mut room) = vec![in alloc; EMPTY_HEADER_SPAN; HEADER_ROOM] else {
+        let Some(mut room) = self.take_room(alloc) else {
             return Got::NoMemory;
         };
-        match self.read_held(alloc, source, &mut room) {
+        let got = match self.read_held(alloc, source, &mut room) {
             Some(got) => got,
             None => self.read_later(alloc, source, &mut room),
+        };
+        self.room = room;
+        got
+    }
+
+    /// The room for the fields of a head, which is made once.
+    fn take_room(&mut self, alloc: Global) -> Option<Vec<HeaderSpan>>
+        ensures size { IfSome result (λ room. length room.items ≡ 4096) }
+        ensures same { self.new ≡ self.old }
+    {
+        let room = mem::replace(&mut self.room, Vec::new(alloc));
+        if room.len() == HEADER_ROOM {
+            return Some(room);
         }
+        vec![in alloc; EMPTY_HEADER_SPAN; HEADER_ROOM].ok()
     }
 
     /// What stands at the front of what is held; None where that is unfinished.
@@ -100,12 +118,14 @@ impl Wire {
         ensures taken { self.new.taken ≡ self.old.taken }
     {
         match find_front(alloc, &self.held, room) {
-            Ok(Front::Message { message, used }) => Some(self.use_up(
-                alloc,
-                used,
-                Got::Message(message),
-            )),
-            Ok(Front::TooLarge { used }) => Some(self.use_up(alloc, used, Got::TooLarge)),
+            Ok(Front::Message { message, used }) => {
+                self.use_up(used);
+                Some(Got::Message(message))
+            }
+            Ok(Front::TooLarge { used }) => {
+                self.use_up(used);
+                Some(Got::TooLarge)
+            }
             Ok(Front::Unframed(status)) => Some(Got::Unframed(status)),
             Ok(Front::Unfinished) => None,
             Err(NoMemory) => Some(Got::NoMemory),
@@ -145,19 +165,15 @@ impl Wire {
         }
     }
 
-    /// Keeps what stands behind so many bytes.
-    fn use_up(&mut self, alloc: Global, used: usize, got: Got) -> Got
+    /// Drops so many bytes from the front of what is held.
+    #[tactic(auto, using(crate::proofs::Streams::front_dropped))]
+    fn use_up(&mut self, used: usize)
         requires { used ≤ length self.old.held }
-        ensures { UsesUp used got self.old self.new result }
+        ensures { self.new ≡ record { held = drop used self.old.held; taken = self.old.taken } }
     {
-        let (_, rest) = self.held.split_at(used);
-        match Vec::from_slice(alloc, rest) {
-            Ok(rest) => {
-                self.held = rest;
-                got
-            }
-            Err(_) => Got::NoMemory,
-        }
+        let left = self.held.len() - used;
+        self.held.rotate_left(used);
+        self.held.truncate(left);
     }
 
     /// Takes some bytes more.
