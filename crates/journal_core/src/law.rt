@@ -1,6 +1,6 @@
 //! What holds of all journals, for the proofs above.
 ghost use Rattle.std.specs.Prelude.{◌≡◌, ℕ, List, ◌+◌, ◌≤◌, ◌⊎◌, [], ◌∷◌, ◌++◌, length, take};
-ghost use Rattle.journal_core.specs.Journal.{head, no_chain, IsPayload, IsJournal, HasJournal, JournalState, BreaksAt, begun_of, chained, chain_after, gate_place, total_of};
+ghost use Rattle.journal_core.specs.Journal.{head, no_chain, IsPayload, IsJournal, HasJournal, JournalState, BreaksAt, begun_of, chained, chain_after, group, opened, gate_place, total_of};
 ghost use Rattle.journal_core.specs.Mounting.{Refuses, IsOutside};
 ghost use Rattle.journal_core.specs.declared.fault.MountFault.{MountFault as MountFaultValue};
 
@@ -24,8 +24,10 @@ pub fn no_journal_is_refused()
     ensures { (bytes : List ℕ) (payloads : List (List ℕ)) (fault : MountFaultValue) → IsJournal payloads bytes → Refuses fault bytes → IsOutside fault }
 {}
 
-/// The place and the chain of one payload more, the length of a journal, and the journal of one payload.
+/// The groups, the place and the chain of one payload more, the length of a journal, and the journal of one payload.
 pub fn one_group_more()
+    ensures bytes { (payloads : List (List ℕ)) (payload rest : List ℕ) → opened no_chain (payloads ++ payload ∷ []) ++ rest
+        ≡ opened no_chain payloads ++ 1 ∷ (group (chain_after no_chain payloads) payload ++ rest) }
     ensures place { (payloads : List (List ℕ)) (payload : List ℕ) → gate_place (payloads ++ payload ∷ []) ≡ gate_place payloads + total_of payload }
     ensures chain { (payloads : List (List ℕ)) (payload : List ℕ) → chain_after no_chain (payloads ++ payload ∷ []) ≡ chained (chain_after no_chain payloads) payload }
     ensures size { (bytes : List ℕ) (payloads : List (List ℕ)) → IsJournal payloads bytes → gate_place payloads + 1 ≤ length bytes }

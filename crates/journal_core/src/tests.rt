@@ -122,9 +122,11 @@ fn the_last_gate_at_each_value(rt: HostRuntime) -> Result<(), TestFail> {
 #[test]
 fn a_file_cut_in_its_last_group(rt: HostRuntime) -> Result<(), TestFail> {
     let alloc = rt.alloc();
-    let whole = joined(alloc, &[HEAD, b"\x01", FIRST, b"\x01", SECOND_AND_GATE])?;
-    for count in 0..96 {
-        let mut plant = plant_with(alloc, &whole[..count], &[])?;
+    let mut bytes = joined(alloc, &[HEAD, b"\x01", FIRST, b"\x01", SECOND_AND_GATE])?;
+    for _ in 0..96 {
+        bytes.pop();
+        let mut plant = plant_with(alloc, &bytes, &[])?;
+        let count = bytes.len();
         let want = match count {
             0..=16 => MountFault::NotBegun,
             17..=55 => MountFault::BadHead { at: FIRST_GATE },
