@@ -1,5 +1,5 @@
 -- What stands at the front of bytes: one thing, which stays whatever follows.
-use Rattle.std.proofs.Common.{◌≡◌, ℕ, ◌+◌, ◌<◌, ◌≤◌, inl, inr, List, ◌++◌, length, take, drop, map, refl, sym, ap, subst, ◌∙◌, append_assoc, arith, length-append}
+use Rattle.std.proofs.Common.{◌≡◌, ℕ, ◌+◌, ◌<◌, ◌≤◌, inl, inr, List, ◌++◌, length, take, drop, map, refl, sym, ap, subst, ◌∙◌, append_assoc, arith, length-append, append-nil, [], ◌∷◌}
 use Rattle.std.proofs.lemmas.List.{take-append-drop, take-append-le, length-take-le}
 use Rattle.httparse.specs.Grammar.{RequestHead, print_request, ReadsRequest, HasNoRequest, NeverHasRequest}
 use Rattle.httparse.specs.Spans.{header_bytes}
@@ -11,7 +11,7 @@ use Rattle.http_frames.specs.declared.fields.Framing.TheVariants.{Refused, Body}
 use Rattle.http_frames.specs.declared.front.Front.TheVariants as fronts
 use Rattle.http_frames.specs.declared.message.Message.{Message}
 use Rattle.http_frames.specs.Fields.{framing_of}
-use Rattle.http_frames.specs.Frames.{head_limit, body_limit, fields_of, IsFramed, HeadAt, IsTooLong, IsUnframed, IsUnfinished, MessageAt, TooLargeAt, FrontsStay}
+use Rattle.http_frames.specs.Frames.{head_limit, body_limit, fields_of, IsFramed, HeadAt, IsTooLong, IsUnframed, IsUnfinished, IsUnfinishedUntil, IsBodyUntil, IsBodyBegun, MessageAt, TooLargeAt, FrontsStay}
 use Rattle.http_frames.specs.Head.{head_window, IsWhole, message_at}
 
 -- ---- what was read of the window
@@ -38,9 +38,12 @@ module _ (bytes : List ℕ) (room : List HeaderSpan) (spans : RequestSpans) (who
   pub refused_stands : (status : ℕ) → framing_of (map (header_bytes (head_window bytes)) (take spans.headers room)) ≡ Refused status → IsUnframed bytes status
   refused_stands status is = inl (record { head = whole.head; rest = drop spans.len bytes; at = whole.is.at; refused = framing_same (Refused status) is })
 
-  pub begun_stands : (size : ℕ) → framing_of (map (header_bytes (head_window bytes)) (take spans.headers room)) ≡ Body size → length (drop spans.len bytes) < size → IsUnfinished bytes
-  begun_stands size is short =
-      inr (record { head = whole.head; rest = drop spans.len bytes; at = whole.is.at; size = size; framing = framing_same (Body size) is; short = short })
+  pub begun_stands : (size : ℕ) → framing_of (map (header_bytes (head_window bytes)) (take spans.headers room)) ≡ Body size → length (drop spans.len bytes) < size
+      → IsUnfinishedUntil bytes (spans.len + size)
+  begun_stands size is short = inr (record {
+    begun = record { head = whole.head; rest = drop spans.len bytes; at = whole.is.at; size = size; framing = framing_same (Body size) is; short = short };
+    all = omega (arith, whole.is.parts.len);
+  })
 
   framed : (size : ℕ) → framing_of (map (header_bytes (head_window bytes)) (take spans.headers room)) ≡ Body size → size ≤ length (drop spans.len bytes)
       → IsFramed (print_request whole.head ++ take size (drop spans.len bytes)) whole.head (take size (drop spans.len bytes))
@@ -117,4 +120,41 @@ fronts_stay bytes more (fronts.Message message used) stands stays =
 fronts_stay bytes more (fronts.TooLarge used) stands stays =
     record { front = stands.front; rest = stands.rest ++ more; is = stands.is; long = stands.long; whole = ap (λ (t : List ℕ). t ++ more) stands.whole ∙ append_assoc stands.front stands.rest more }
 fronts_stay bytes more (fronts.Unframed status) stands stays = unframed_stays bytes more status stands
-fronts_stay bytes more fronts.Unfinished stands stays = absurd (stays refl)
+fronts_stay bytes more (fronts.Unfinished needs) stands stays = absurd (stays needs refl)
+
+-- ---- what is unfinished
+
+pub unfinished_until : (bytes : List ℕ) (needs : ℕ) → IsUnfinishedUntil bytes needs → IsUnfinished bytes
+unfinished_until bytes needs until = elim until [ inl head ↦ inl head.0 | inr body ↦ inr body.begun ]
+
+no_more : (bytes more : List ℕ) → length (bytes ++ more) < length bytes + 1 → more ≡ []
+no_more bytes [] short = refl
+no_more bytes (byte ∷ more) short = absurd (omega (arith, short, length-append bytes (byte ∷ more)))
+
+body_goes_on : (bytes more : List ℕ) (needs : ℕ) (until : IsBodyUntil bytes needs) → length (bytes ++ more) < needs → IsBodyBegun (bytes ++ more)
+body_goes_on bytes more needs until short =
+    let begun = until.begun in record {
+      head = begun.head;
+      rest = begun.rest ++ more;
+      at = head_stays bytes more begun.head begun.rest begun.at;
+      size = begun.size;
+      framing = begun.framing;
+      short = omega (
+        arith,
+        short,
+        until.all,
+        length-append bytes more,
+        length-append begun.rest more,
+        ap length begun.at.reads.1,
+        length-append (print_request begun.head) begun.rest,
+      );
+    }
+
+-- fewer bytes than are needed stay unfinished
+pub waits_until : (bytes : List ℕ) (needs : ℕ) → IsUnfinishedUntil bytes needs → (more : List ℕ) → length (bytes ++ more) < needs → IsUnfinished (bytes ++ more)
+waits_until bytes needs until more short = elim until [
+  | inl head ↦
+      let nothing : more ≡ [] = no_more bytes more (omega (arith, short, head.1)) in
+      subst (λ (t : List ℕ). IsUnfinished t) (sym (ap (λ (t : List ℕ). bytes ++ t) nothing ∙ append-nil bytes)) (inl head.0)
+  | inr body ↦ inr (body_goes_on bytes more needs body short)
+]

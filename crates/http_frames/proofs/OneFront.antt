@@ -19,7 +19,7 @@ BodyFront head rest size (fronts.Message message used) =
     (size ≤ length rest) × (size ≤ body_limit) × (message ≡ message_of head (take size rest)) × (used ≡ length (print_request head) + size)
 BodyFront head rest size (fronts.TooLarge used) = (size ≤ length rest) × (body_limit < size) × (used ≡ length (print_request head) + size)
 BodyFront head rest size (fronts.Unframed status) = ⊥
-BodyFront head rest size fronts.Unfinished = length rest < size
+BodyFront head rest size (fronts.Unfinished needs) = (length rest < size) × (needs ≡ length (print_request head) + size)
 
 abbrev HeadFront : RequestHead → List ℕ → Framing → Front → Type 0
 HeadFront head rest (Refused status) front = front ≡ fronts.Unframed status
@@ -35,16 +35,16 @@ one_body : (head : RequestHead) (rest : List ℕ) (size : ℕ) (left right : Fro
 one_body head rest size (fronts.Message m used) (fronts.Message n also) x y = cc (x.2, y.2, x.3, y.3)
 one_body head rest size (fronts.Message m used) (fronts.TooLarge also) x y = absurd (omega (arith, x.1, y.1))
 one_body head rest size (fronts.Message m used) (fronts.Unframed status) x y = absurd y
-one_body head rest size (fronts.Message m used) fronts.Unfinished x y = absurd (omega (arith, x.0, y))
+one_body head rest size (fronts.Message m used) (fronts.Unfinished needs) x y = absurd (omega (arith, x.0, y.0))
 one_body head rest size (fronts.TooLarge used) (fronts.Message n also) x y = absurd (omega (arith, x.1, y.1))
 one_body head rest size (fronts.TooLarge used) (fronts.TooLarge also) x y = cc (x.2, y.2)
 one_body head rest size (fronts.TooLarge used) (fronts.Unframed status) x y = absurd y
-one_body head rest size (fronts.TooLarge used) fronts.Unfinished x y = absurd (omega (arith, x.0, y))
+one_body head rest size (fronts.TooLarge used) (fronts.Unfinished needs) x y = absurd (omega (arith, x.0, y.0))
 one_body head rest size (fronts.Unframed status) right x y = absurd x
-one_body head rest size fronts.Unfinished (fronts.Message n also) x y = absurd (omega (arith, x, y.0))
-one_body head rest size fronts.Unfinished (fronts.TooLarge also) x y = absurd (omega (arith, x, y.0))
-one_body head rest size fronts.Unfinished (fronts.Unframed status) x y = absurd y
-one_body head rest size fronts.Unfinished fronts.Unfinished x y = refl
+one_body head rest size (fronts.Unfinished needs) (fronts.Message n also) x y = absurd (omega (arith, x.0, y.0))
+one_body head rest size (fronts.Unfinished needs) (fronts.TooLarge also) x y = absurd (omega (arith, x.0, y.0))
+one_body head rest size (fronts.Unfinished needs) (fronts.Unframed status) x y = absurd y
+one_body head rest size (fronts.Unfinished needs) (fronts.Unfinished also) x y = cc (x.1, y.1)
 
 one_framing : (head : RequestHead) (rest : List ℕ) (framing : Framing) (left right : Front) → HeadFront head rest framing left → HeadFront head rest framing right → left ≡ right
 one_framing head rest (Refused status) left right x y = x ∙ sym y
@@ -79,7 +79,7 @@ not_begun bytes none begun closed = elim none [
 -- ---- what stands is one of three
 
 abbrev Means : List ℕ → Front → Type 0
-Means bytes front = HeadSays bytes front ⊎ ((IsNoHead bytes × (front ≡ fronts.Unframed 400)) ⊎ (IsHeadBegun bytes × (front ≡ fronts.Unfinished)))
+Means bytes front = HeadSays bytes front ⊎ ((IsNoHead bytes × (front ≡ fronts.Unframed 400)) ⊎ (IsHeadBegun bytes × (front ≡ fronts.Unfinished (length bytes + 1))))
 
 framed_at : (bytes front rest : List ℕ) (head : RequestHead) (body : List ℕ) → IsFramed front head body → bytes ≡ front ++ rest → HeadAt bytes head (body ++ rest)
 framed_at bytes front rest head body framed whole = record {
@@ -125,14 +125,15 @@ means bytes (fronts.Unframed status) stands = elim stands [
   })
   | inr none ↦ inr (inl (none.1, ap (λ (s : ℕ). fronts.Unframed s) none.0))
 ]
-means bytes fronts.Unfinished stands = elim stands [
-  | inl begun ↦ inr (inr (begun, refl))
-  | inr begun ↦ inl (record {
-    head = begun.head;
-    rest = begun.rest;
-    at = begun.at;
-    says = subst (λ (f : Framing). HeadFront begun.head begun.rest f fronts.Unfinished) (sym begun.framing) begun.short;
-  })
+means bytes (fronts.Unfinished needs) stands = elim stands [
+  | inl begun ↦ inr (inr (begun.0, ap (λ (n : ℕ). fronts.Unfinished n) begun.1))
+  | inr until ↦
+      let begun = until.begun in inl (record {
+        head = begun.head;
+        rest = begun.rest;
+        at = begun.at;
+        says = subst (λ (f : Framing). HeadFront begun.head begun.rest f (fronts.Unfinished needs)) (sym begun.framing) (begun.short, until.all);
+      })
 ]
 
 pub one_front : AtMostOneFront

@@ -1,5 +1,5 @@
 -- Bytes that pass a wire.
-use Rattle.std.proofs.Common.{◌≡◌, ℕ, ◌+◌, ◌-◌, ◌≤◌, drop, take, List, [], ◌++◌, Option, Some, None, refl, sym, ap, subst, ◌∙◌, append_assoc, append-nil, length, length-append, arith}
+use Rattle.std.proofs.Common.{◌≡◌, ℕ, ◌-◌, ◌≤◌, ◌<◌, drop, take, List, [], ◌++◌, Option, Some, None, refl, sym, ap, subst, ◌∙◌, append_assoc, append-nil, length, length-append, arith}
 use Rattle.std.specs.Prelude.{IfSome}
 use Rattle.std.specs.Io.KnownBytes.{prepend_known, Consumes}
 use Rattle.plant.specs.Stream.{SourceTold}
@@ -7,10 +7,10 @@ use Rattle.std.proofs.lemmas.List.{take_at, drop_at, length-drop}
 use Rattle.http_frames.specs.declared.message.Message.{Message}
 use Rattle.http_frames.specs.declared.wire.Got.{Got}
 use Rattle.http_frames.specs.declared.wire.Got.TheVariants as got
-use Rattle.http_frames.specs.Frames.{MessageAt, TooLargeAt, IsUnframed, Stands}
+use Rattle.http_frames.specs.Frames.{MessageAt, TooLargeAt, IsUnframed, IsUnfinished, Stands}
 use Rattle.http_frames.specs.declared.front.Front.{Front}
 use Rattle.http_frames.specs.declared.front.Front.TheVariants as fronts
-use Rattle.http_frames.specs.Stream.{GrowsSome, WireState, Passes, PassesSome, Takes, Tells, Grows, IsFront}
+use Rattle.http_frames.specs.Stream.{GrowsSome, Awaits, WireState, Passes, PassesSome, Takes, Tells, Grows, IsFront}
 use Rattle.http_frames.proofs.FrameLemmas.{unframed_stays}
 
 none_gone : (held : List ℕ) (left : Option (List ℕ)) → Consumes (prepend_known held left) (prepend_known held left) []
@@ -150,3 +150,14 @@ pub unframed_told : (bytes : List ℕ) (front : Front) (status : ℕ) (wire : Wi
     → Stands bytes front → Tells (got.Unframed status) wire source source'
 unframed_told bytes front status wire source source' held is stands =
     tells_unframed wire source source' status (subst (λ (f : Front). Stands wire.held f) is (subst (λ (b : List ℕ). Stands b front) held stands))
+
+-- ---- what is awaited
+
+pub awaits_on : (old new : WireState) (source source' : SourceTold) (needs : ℕ) → GrowsSome old source new source' → Awaits old.held needs → Awaits new.held needs
+awaits_on old new source source' needs more awaits later short =
+    let same : new.held ++ later ≡ old.held ++ (more.piece ++ later) = ap (λ (t : List ℕ). t ++ later) more.grows.held ∙ append_assoc old.held more.piece later in
+    subst (λ (t : List ℕ). IsUnfinished t) (sym same) (awaits (more.piece ++ later) (omega (arith, short, ap length same)))
+
+pub awaited : (held : List ℕ) (needs : ℕ) → Awaits held needs → length held < needs → IsUnfinished held
+awaited held needs awaits short =
+    subst (λ (t : List ℕ). IsUnfinished t) (append-nil held) (awaits [] (omega (arith, short, ap length (append-nil held))))

@@ -1,5 +1,5 @@
 -- What the header fields of a message say: how long its body is, who sends it, and whether it is the last one.
-use Rattle.std.specs.Prelude.{ℕ, List, [], ◌∷◌, length, codes, Bool, true, false, not, ◌&&◌, ◌||◌, Option, Some, None, if◌then◌else◌, nat_le, nat_lt}
+use Rattle.std.specs.Prelude.{ℕ, List, [], ◌∷◌, length, codes, Bool, true, false, not, ◌&&◌, ◌||◌, Option, Some, None, if◌then◌else◌, nat_le, nat_lt, ⊤, ◌≤◌}
 use Rattle.std.specs.List.{list_all}
 use Rattle.std.specs.Char.{is_ascii_digit}
 use Rattle.std.specs.Option.{is_some}
@@ -69,6 +69,11 @@ framing_of_size fields (Some size) = if is_encoded fields then Refused 501 else 
 -- the status with which a message is refused whose end isn't known, or the size of its body; the first rule that applies
 unfoldable pub framing_of : Fields → Framing
 framing_of fields = if nat_lt 64 (length fields) then Refused 400 else framing_of_size fields (body_size fields)
+
+-- a body that is read to its end has at most 1,048,576 bytes
+abbrev pub FitsDropped : Framing → Type 0
+FitsDropped (Refused status) = ⊤
+FitsDropped (Body size) = size ≤ 1048576
 
 -- the token of the caller
 abbrev pub token_of : Fields → Option (List ℕ)

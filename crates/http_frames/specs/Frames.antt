@@ -1,6 +1,6 @@
 -- What stands at the front of the bytes that a sender writes: a message, one whose body is too large, one whose end can't be
 -- known, or the beginning of one (RFC 9112, sections 2 and 6).
-use Rattle.std.specs.Prelude.{◌≡◌, ◌≢◌, ℕ, ◌<◌, ◌≤◌, ◌⊎◌, List, ◌++◌, length, take, map}
+use Rattle.std.specs.Prelude.{◌≡◌, ◌≢◌, ℕ, ◌+◌, ◌<◌, ◌≤◌, ◌⊎◌, List, ◌++◌, length, take, map}
 use Rattle.httparse.specs.Grammar.{RequestHead, print_request, IsRequestHead, ReadsRequest, HasNoRequest, NeverHasRequest, MayBecomeRequest, EndsInTarget}
 use Rattle.httparse.specs.Spans.{name_and_value}
 use Rattle.http_frames.specs.declared.message.Message.{Message}
@@ -91,6 +91,15 @@ pub record IsBodyBegun (bytes : List ℕ) : Type 0 where
 abbrev pub IsUnfinished : List ℕ → Type 0
 IsUnfinished bytes = IsHeadBegun bytes ⊎ IsBodyBegun bytes
 
+-- a body that is begun, and how many bytes the head and the body have
+pub record IsBodyUntil (bytes : List ℕ) (needs : ℕ) : Type 0 where
+  pub begun : IsBodyBegun bytes
+  pub all : needs ≡ length (print_request begun.head) + begun.size
+
+-- the bytes end inside a head or a body, and more isn't known before there are so many
+abbrev pub IsUnfinishedUntil : List ℕ → ℕ → Type 0
+IsUnfinishedUntil bytes needs = (IsHeadBegun bytes × (needs ≡ length bytes + 1)) ⊎ IsBodyUntil bytes needs
+
 -- bytes of which so many are a message, or one that is too large
 pub record MessageAt (bytes : List ℕ) (message : Message) (used : ℕ) : Type 0 where
   pub front : List ℕ
@@ -111,7 +120,7 @@ abbrev pub Stands : List ℕ → Front → Type 0
 Stands bytes (fronts.Message message used) = MessageAt bytes message used
 Stands bytes (fronts.TooLarge used) = TooLargeAt bytes used
 Stands bytes (fronts.Unframed status) = IsUnframed bytes status
-Stands bytes fronts.Unfinished = IsUnfinished bytes
+Stands bytes (fronts.Unfinished needs) = IsUnfinishedUntil bytes needs
 
 -- bytes stand for one front at most. Whether the beginning of a target that isn't UTF-8 can become a head is left open
 -- until the target ends
@@ -120,4 +129,4 @@ AtMostOneFront = (bytes : List ℕ) (left right : Front) → Stands bytes left �
 
 -- what stands at the front stays there, whatever bytes follow
 abbrev pub FrontsStay : Type 0
-FrontsStay = (bytes more : List ℕ) (front : Front) → Stands bytes front → front ≢ fronts.Unfinished → Stands (bytes ++ more) front
+FrontsStay = (bytes more : List ℕ) (front : Front) → Stands bytes front → ((needs : ℕ) → front ≢ fronts.Unfinished needs) → Stands (bytes ++ more) front

@@ -68,6 +68,10 @@ pub record GrowsSome (old : WireState) (source : SourceTold) (new : WireState) (
   pub fits : length piece ≤ piece_limit
   pub grows : Grows old source new source' piece
 
+-- what is held stays unfinished as long as it has fewer bytes than these
+abbrev pub Awaits : List ℕ → ℕ → Type 0
+Awaits held needs = (more : List ℕ) → length (held ++ more) < needs → IsUnfinished (held ++ more)
+
 -- what one call of the source gave: some bytes more, or nothing
 abbrev pub Gives : More → WireState → SourceTold → WireState → SourceTold → Type 0
 Gives mores.Bytes old source new source' = GrowsSome old source new source'

@@ -2,7 +2,7 @@
 ghost use Rattle.std.specs.Prelude.{◌≡◌, length, map, option_map, All, codes};
 ghost use Rattle.std.specs.Str.{bytes_eq, str_eq_ignore_ascii_case};
 ghost use Rattle.httparse.specs.Spans.{IsHeaderWithin, header_bytes};
-ghost use Rattle.http_frames.specs.Fields.{first_value, has_field, has_name, differs, some_differs, agrees, some_agrees, body_size, is_encoded, framing_of};
+ghost use Rattle.http_frames.specs.Fields.{FitsDropped, first_value, has_field, has_name, differs, some_differs, agrees, some_agrees, body_size, is_encoded, framing_of};
 
 use crate::size::read_size;
 use httparse::spans::HeaderSpan;
@@ -26,7 +26,8 @@ pub enum Framing {
 #[tactic(auto, unfolding(crate::specs::Fields::framing_of))]
 pub fn framing_of(head: &[u8], headers: &[HeaderSpan]) -> Framing
     requires { All (IsHeaderWithin (length head.now)) headers.now }
-    ensures { result ≡ framing_of (map (header_bytes head.now) headers.now) }
+    ensures same { result ≡ framing_of (map (header_bytes head.now) headers.now) }
+    ensures fits { FitsDropped result }
 {
     if headers.len() > LINE_LIMIT {
         return Framing::Refused(400);

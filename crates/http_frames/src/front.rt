@@ -23,8 +23,8 @@ pub enum Front {
     TooLarge { used: usize },
     /// Where the message ends can't be known; this status is the answer.
     Unframed(u16),
-    /// The bytes end inside a head or a body.
-    Unfinished,
+    /// The bytes end inside a head or a body, and more isn't known before there are so many.
+    Unfinished { needs: usize },
 }
 
 /// What stands at the front of the bytes.
@@ -35,7 +35,9 @@ pub fn find_front(alloc: Global, bytes: &[u8], room: &mut [HeaderSpan]) -> Resul
     let window = window_of(bytes);
     match find_head(bytes, window, room) {
         HeadFound::Never => Ok(Front::Unframed(400)),
-        HeadFound::Unfinished => Ok(Front::Unfinished),
+        HeadFound::Unfinished => Ok(Front::Unfinished {
+            needs: bytes.len() + 1,
+        }),
         HeadFound::Whole(spans) => behind_head(alloc, bytes, window, room, &spans),
     }
 }
@@ -58,11 +60,11 @@ fn behind_head(
         Framing::Body(size) => size,
     };
     let (_, behind) = bytes.split_at(spans.len);
-    if (behind.len() as u64) < size {
-        return Ok(Front::Unfinished);
-    }
     let size = size as usize;
     let used = spans.len + size;
+    if behind.len() < size {
+        return Ok(Front::Unfinished { needs: used });
+    }
     if size > BODY_LIMIT {
         return Ok(Front::TooLarge { used });
     }

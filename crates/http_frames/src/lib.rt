@@ -9,7 +9,7 @@ mod message;
 mod size;
 mod wire;
 
-pub use front::{Front, find_front};
+pub use front::Front;
 pub use law::{one_front, one_passing};
 pub use message::Message;
 pub use wire::{Got, Wire};

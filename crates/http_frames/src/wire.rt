@@ -1,7 +1,7 @@
 //! One message after another from a source.
-ghost use Rattle.std.specs.Prelude.{◌≡◌, ◌≤◌, [], length, drop, IfSome, IfNone};
+ghost use Rattle.std.specs.Prelude.{◌≡◌, ◌≤◌, [], length, drop, IfSome, IfOk, IfErr};
 ghost use Rattle.http_frames.specs.Frames.{IsUnfinished};
-ghost use Rattle.http_frames.specs.Stream.{Takes, Tells, TakesNeeded, IsNeeded, Gives, most_taken};
+ghost use Rattle.http_frames.specs.Stream.{Awaits, Takes, Tells, TakesNeeded, IsNeeded, Gives, most_taken};
 
 use crate::front::{Front, find_front};
 use crate::head::HEADER_ROOM;
@@ -48,7 +48,7 @@ pub struct Wire {
 
 impl Model for Wire {
     ghost use Rattle.std.specs.Prelude.{◌≤◌};
-    ghost use Rattle.http_frames.specs.Stream.{WireState, most_taken};
+    ghost use Rattle.http_frames.specs.Stream.{Awaits, WireState, most_taken};
 
     ghost Value = { WireState };
 
@@ -83,9 +83,9 @@ impl Wire {
         let Some(mut room) = self.take_room(alloc) else {
             return Got::NoMemory;
         };
-        let got = match self.read_held(alloc, source, &mut room) {
-            Some(got) => got,
-            None => self.read_later(alloc, source, &mut room),
+        let got = match self.read_held(alloc, source, &mut room, 0) {
+            Ok(got) => got,
+            Err(needs) => self.read_later(alloc, source, &mut room, needs),
         };
         self.room = room;
         got
@@ -103,32 +103,39 @@ impl Wire {
         vec![in alloc; EMPTY_HEADER_SPAN; HEADER_ROOM].ok()
     }
 
-    /// What stands at the front of what is held; None where that is unfinished.
+    /// What stands at the front of what is held; where that is unfinished, how many bytes are needed to know more.
+    #[tactic(auto, using(crate::proofs::FrameLemmas::unfinished_until, crate::proofs::FrameLemmas::waits_until, crate::proofs::Streams::awaited))]
     fn read_held<S: Source>(
         &mut self,
         alloc: Global,
         source: &S,
         room: &mut [HeaderSpan],
-    ) -> Option<Got>
-        requires { length room.old ≡ 4096 }
-        ensures takes { IfSome result (λ got. Takes got self.old (S.told source.now) self.new (S.told source.now)) }
-        ensures tells { IfSome result (λ got. Tells got self.new (S.told source.now) (S.told source.now)) }
-        ensures none { IfNone result (IsUnfinished self.old.held) }
-        ensures same { IfNone result (self.new ≡ self.old) }
+        needs: usize,
+    ) -> Result<Got, usize>
+        requires room { length room.old ≡ 4096 }
+        requires awaits { Awaits self.old.held needs }
+        ensures takes { IfOk result (λ got. Takes got self.old (S.told source.now) self.new (S.told source.now)) }
+        ensures tells { IfOk result (λ got. Tells got self.new (S.told source.now) (S.told source.now)) }
+        ensures awaits { IfErr result (λ needs. Awaits self.old.held needs) }
+        ensures none { IfErr result (λ _. IsUnfinished self.old.held) }
+        ensures same { IfErr result (λ _. self.new ≡ self.old) }
         ensures taken { self.new.taken ≡ self.old.taken }
     {
+        if self.held.len() < needs {
+            return Err(needs);
+        }
         match find_front(alloc, &self.held, room) {
             Ok(Front::Message { message, used }) => {
                 self.use_up(used);
-                Some(Got::Message(message))
+                Ok(Got::Message(message))
             }
             Ok(Front::TooLarge { used }) => {
                 self.use_up(used);
-                Some(Got::TooLarge)
+                Ok(Got::TooLarge)
             }
-            Ok(Front::Unframed(status)) => Some(Got::Unframed(status)),
-            Ok(Front::Unfinished) => None,
-            Err(NoMemory) => Some(Got::NoMemory),
+            Ok(Front::Unframed(status)) => Ok(Got::Unframed(status)),
+            Ok(Front::Unfinished { needs }) => Err(needs),
+            Err(NoMemory) => Ok(Got::NoMemory),
         }
     }
 
@@ -138,8 +145,10 @@ impl Wire {
         alloc: Global,
         source: &mut S,
         room: &mut [HeaderSpan],
+        mut needs: usize,
     ) -> Got
         requires room { length room.old ≡ 4096 }
+        requires awaits { Awaits self.old.held needs }
         requires none { IsUnfinished self.old.held }
         ensures takes { Takes result self.old (S.told source.old) self.new (S.told source.new) }
         ensures tells { Tells result self.new (S.told source.old) (S.told source.new) }
@@ -158,9 +167,9 @@ impl Wire {
                 More::TooMany => return Got::StreamLong,
                 More::NoMemory => return Got::NoMemory,
             }
-            match self.read_held(alloc, source, room) {
-                Some(got) => return got,
-                None => {}
+            match self.read_held(alloc, source, room, needs) {
+                Ok(got) => return got,
+                Err(more) => needs = more,
             }
         }
     }

@@ -1,6 +1,6 @@
 use Rattle.std.proofs.Common.{◌≡◌, ◌-◌, ◌≤◌}
 use Rattle.http_frames.specs.Frames.{IsUnfinished}
-use Rattle.http_frames.specs.Stream.{most_taken}
+use Rattle.http_frames.specs.Stream.{Awaits, most_taken}
 use Rattle.http_frames.proofs.Streams.{GrowsBefore}
 use Rattle.http_frames.proofs.wire.Wire.read_later.Given as goal
 
@@ -11,6 +11,7 @@ invariant-loop-self g l = record {
   beside : g.S.Source.beside l.source ≡ g.S.Source.beside l.fn.source;
   fits : l.self.taken ≤ most_taken;
   none : IsUnfinished l.self.held;
+  awaits : Awaits l.self.held l.needs;
 }
 
 abbrev pub decreases-loop-self : goal.decreases-loop-self
