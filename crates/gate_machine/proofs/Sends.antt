@@ -99,9 +99,9 @@ own_is_order caller number history order each own =
 pub targets_fit : (what : What) → IsWhat what → is_order what ≡ true → (length (targets_of what) ≤ 255) × AllByRecursion IsShort (targets_of what)
 targets_fit (Order key common days targets request) is order = (omega (arith, is.are_targets.count), all_short targets is.are_targets.each)
 targets_fit (Settings bytes) is order = absurd cc
-targets_fit (Challenge key order method target value thumb) is order = absurd cc
+targets_fit (Challenge key number method target value thumb) is order = absurd cc
 targets_fit (Observation key challenge seen_at seen) is order = absurd cc
-targets_fit (CaaAnswer key order target seen_at answers) is order = absurd cc
+targets_fit (CaaAnswer key number target seen_at answers) is order = absurd cc
 targets_fit (Send number body) is order = absurd cc
 targets_fit (Signed number signature) is order = absurd cc
 targets_fit (Blocked key spki) is order = absurd cc

@@ -39,9 +39,9 @@ itself bytes = nat_list_eq_equiv.refl bytes
 own_serial : (order : ℕ) (what : What) → is_send_for order what ≡ true → has_serial (serial_in (body_in what)) what ≡ true
 own_serial order (Send number body) sends = itself (serial_in body)
 own_serial order (Settings bytes) sends = absurd cc
-own_serial order (Challenge key order method target value thumb) sends = absurd cc
+own_serial order (Challenge key number method target value thumb) sends = absurd cc
 own_serial order (Observation key challenge seen_at seen) sends = absurd cc
-own_serial order (CaaAnswer key order target seen_at answers) sends = absurd cc
+own_serial order (CaaAnswer key number target seen_at answers) sends = absurd cc
 own_serial order (Order key common days targets request) sends = absurd cc
 own_serial order (Signed number signature) sends = absurd cc
 own_serial order (Blocked key spki) sends = absurd cc
@@ -49,9 +49,9 @@ own_serial order (Blocked key spki) sends = absurd cc
 own_order_in : (order : ℕ) (what : What) → is_send_for order what ≡ true → order_in what ≡ order
 own_order_in order (Send number body) sends = eqb-true number order sends
 own_order_in order (Settings bytes) sends = absurd cc
-own_order_in order (Challenge key order method target value thumb) sends = absurd cc
+own_order_in order (Challenge key number method target value thumb) sends = absurd cc
 own_order_in order (Observation key challenge seen_at seen) sends = absurd cc
-own_order_in order (CaaAnswer key order target seen_at answers) sends = absurd cc
+own_order_in order (CaaAnswer key number target seen_at answers) sends = absurd cc
 own_order_in order (Order key common days targets request) sends = absurd cc
 own_order_in order (Signed number signature) sends = absurd cc
 own_order_in order (Blocked key spki) sends = absurd cc
