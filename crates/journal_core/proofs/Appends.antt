@@ -1,9 +1,8 @@
 -- An append: what a stop may leave since its start, and after it.
-use Rattle.std.proofs.Common.{◌≡◌, inl, inr, ⊎_elim, ◌⊎◌, ℕ, ◌+◌, ◌≤◌, List, [], ◌∷◌, ◌++◌, length, Option, Some, option_map, refl, sym, ◌∙◌, ap, subst, arith, length-append, Bool}
+use Rattle.std.proofs.Common.{◌≡◌, inl, ⊎_elim, ◌⊎◌, ℕ, ◌+◌, List, [], ◌∷◌, ◌++◌, length, Option, Some, option_map, sym, ◌∙◌, ap, subst, arith, length-append, Bool}
 use Rattle.plant.specs.Plant.{overwritten}
-use Rattle.plant.specs.Stops.{Stops, LeftNow, LeftSince, IsDurable}
-use Rattle.plant.specs.Tearing.{Torn}
-use Rattle.journal_core.specs.Journal.{no_chain, IsPayload, IsJournal, HasJournal, HasRoom, JournalState, group, chained, chain_after, gate_place, total_of}
+use Rattle.plant.specs.Stops.{Stops, LeftNow, IsDurable}
+use Rattle.journal_core.specs.Journal.{no_chain, IsPayload, IsJournal, HasRoom, JournalState, group, chained, total_of}
 use Rattle.journal_core.specs.Standing.{Stands, Commits, MayAppend}
 use Rattle.journal_core.proofs.Groups.{group_length, gate_place-push, chain_after-push}
 use Rattle.journal_core.proofs.Gates.{torn_behind, any_gate, open_gate}
@@ -48,10 +47,13 @@ module _ (journal : JournalState) (payload : List ℕ) (fits : IsPayload payload
       }
 
   pub stands_more : (next : JournalState) (now : Option (List ℕ)) → next.at ≡ journal.at + total_of payload → next.chain ≡ chained journal.chain payload
-      → now ≡ option_map (λ bytes. overwritten bytes journal.at (1 ∷ piece)) told → IsDurable now new
+      → (at : ℕ) (written : List ℕ) → at ≡ journal.at → written ≡ piece → now ≡ option_map (λ bytes. overwritten bytes at (1 ∷ written)) told → IsDurable now new
       → (payloads : List (List ℕ)) → Stands old journal payloads → Stands new next (payloads ++ payload ∷ [])
-  stands_more next now place chain written durable payloads stands image sent left =
-      let was = told_before (λ bytes. overwritten bytes journal.at (1 ∷ piece)) told image (sym written ∙ durable image sent left) in
+  stands_more next now place chain at written same is done durable payloads stands image sent left =
+      let change : now ≡ option_map (λ bytes. overwritten bytes journal.at (1 ∷ piece)) told =
+      done ∙ ap (λ (n : ℕ). option_map (λ bytes. overwritten bytes n (1 ∷ written)) told) same
+      ∙ ap (λ (l : List ℕ). option_map (λ bytes. overwritten bytes journal.at (1 ∷ l)) told) is in
+      let was = told_before (λ bytes. overwritten bytes journal.at (1 ∷ piece)) told image (sym change ∙ durable image sent left) in
       let pair = reads was.0 was.1 in
       let has = stands was.0 pair.0 pair.1 in
       record {

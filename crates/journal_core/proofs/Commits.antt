@@ -1,14 +1,14 @@
 -- A piece that is written behind a gate, and then the gate: the bytes, and what a stop may leave.
-use Rattle.std.proofs.Common.{◌≡◌, inl, inr, ⊎_elim, ◌⊎◌, ℕ, ◌+◌, ◌<◌, ◌≤◌, max, List, [], ◌∷◌, ◌++◌, length, take, drop, get_or, Option, Some, None, option_map, Result, Ok, Err, OnOk, OnErr, refl, sym, ◌∙◌, ap, subst, arith, append_assoc, length-append, length-take, take-append-drop}
-use Rattle.std.proofs.lemmas.List.{take_at, drop_at, take-append-le, take-take, drop_more, drop_all, length-take-le, append-nil}
+use Rattle.std.proofs.Common.{◌≡◌, inl, inr, ⊎_elim, ℕ, ◌+◌, ◌<◌, ◌≤◌, List, [], ◌∷◌, ◌++◌, length, take, drop, get_or, Option, Some, None, option_map, Result, Ok, Err, OnOk, OnErr, refl, sym, ◌∙◌, ap, subst, arith, append_assoc, length-append, take-append-drop}
+use Rattle.std.proofs.lemmas.List.{drop_at, take-append-le, take-take, drop_more, drop_all, length-take-le, append-nil}
 use Rattle.std.specs.Option.{ForSome}
 use Rattle.plant.specs.Plant.{overwritten}
-use Rattle.plant.specs.Stops.{Stops, LeftNow, LeftSince, IsDurable}
-use Rattle.plant.specs.Joining.{Follows}
+use Rattle.plant.specs.Stops.{Stops, IsDurable}
+use Rattle.plant.specs.Joining.{Joins, Follows}
 use Rattle.plant.specs.Tearing.{Torn, TornTold}
 use Rattle.journal_core.specs.Journal.{head}
 use Rattle.journal_core.specs.Standing.{Commits, TornCommit}
-use Rattle.journal_core.proofs.Moments.{told_before, parted, between, keeps_on, keeps_follows}
+use Rattle.journal_core.proofs.Moments.{told_before, parted, keeps_on, keeps_follows}
 
 module _ (at : ℕ) (piece : List ℕ) where
   -- a gate that is torn before a whole piece
@@ -52,9 +52,9 @@ module _ (at : ℕ) (piece : List ℕ) where
 
   pub commits_both : (bytes mid : Option (List ℕ)) (a b c : Stops) → ForSome bytes (λ was. at + 1 ≤ length was)
       → mid ≡ option_map (λ was. overwritten was (at + 1) piece) bytes → Follows (Torn (at + 1) (length piece)) a b → IsDurable mid b
-      → Follows (Torn at 1) b c → Commits at piece bytes a c
-  commits_both bytes mid a b c within written first durable second = record {
-    keeps = keeps_on a b c (keeps_follows _ a b first) (keeps_follows _ b c second);
+      → Follows (Torn at 1) b c → Joins a c → Commits at piece bytes a c
+  commits_both bytes mid a b c within written first durable second joined = record {
+    keeps = keeps_on a b c joined (keeps_follows _ a b first) (keeps_follows _ b c second);
     each = λ image sent left.
         ⊎_elim (λ here. inl (first.each image sent here))
         (λ there.

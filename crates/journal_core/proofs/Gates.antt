@@ -1,15 +1,14 @@
 -- The bytes of a journal, and what writes behind its closed gate and at it make of them.
-use Rattle.std.proofs.Common.{zero, suc, ◌≡◌, inl, inr, ⊎_elim, ◌⊎◌, ℕ, ◌+◌, ◌-◌, ◌<◌, ◌≤◌, max, List, [], ◌∷◌, ◌++◌, length, take, drop, get_or, Option, Some, None, refl, sym, ◌∙◌, ap, subst, arith, append_assoc, length-append, length-take, length-drop, append-nil, take-append-drop}
+use Rattle.std.proofs.Common.{zero, suc, ◌≡◌, inl, inr, ⊎_elim, ◌⊎◌, ℕ, ◌+◌, ◌≤◌, List, [], ◌∷◌, ◌++◌, length, take, drop, refl, sym, ◌∙◌, ap, subst, arith, append_assoc, length-append, length-take, length-drop, append-nil, take-append-drop}
 use Rattle.std.specs.Prelude.{◌≢◌}
-use Rattle.std.specs.List.{sum_by, AllByRecursion}
-use Rattle.std.proofs.lemmas.List.{append_cancel_left, take_at, drop_at, take_all, drop_all, drop_more, drop-drop, take-take}
+use Rattle.std.proofs.lemmas.List.{append_cancel_left, take_at}
 use Rattle.plant.specs.Plant.{overwritten}
 use Rattle.plant.specs.Tearing.{Torn}
-use Rattle.journal_core.specs.Journal.{head, no_chain, IsPayload, IsJournal, HasJournal, JournalState, BreaksAt, begun_of, chained, chain_after, group, opened, total_of, gate_place, LacksGroup}
-use Rattle.journal_core.specs.Mounting.{Refuses, RefusesRest, IsOutside, EndsShut}
+use Rattle.journal_core.specs.Journal.{head, no_chain, IsPayload, IsJournal, HasJournal, JournalState, BreaksAt, begun_of, chain_after, group, opened, gate_place}
+use Rattle.journal_core.specs.Mounting.{IsBegun, Refuses, RefusesRest, IsOutside, EndsShut}
 use Rattle.journal_core.specs.declared.fault.MountFault.{MountFault}
 use Rattle.journal_core.specs.declared.fault.MountFault.TheVariants.{NotBegun, BadHead, TooLong, Disk, NoMemory}
-use Rattle.journal_core.proofs.Groups.{length-head, group_length, length-opened, opened-push, chain_after-push, each_push, one_split}
+use Rattle.journal_core.proofs.Groups.{length-head, group_length, length-opened, opened-push, each_push, one_split}
 
 -- an open gate is told from others
 is_open : (gate : ℕ) → (gate ≡ 1) ⊎ (gate ≢ 1)
@@ -73,6 +72,17 @@ whole_journal bytes rest payloads begins behind fits ends = record {
   each = ends.each;
   fits = fits;
 }
+
+-- why the bytes behind the head are refused, and the whole ones
+pub refuses_whole : (fault : MountFault) (bytes rest : List ℕ) → IsBegun bytes → rest ≡ drop 16 bytes → length bytes ≤ 67108864 → RefusesRest fault rest → Refuses fault bytes
+refuses_whole NotBegun bytes rest begun behind fits refuses = absurd refuses
+refuses_whole (TooLong count) bytes rest begun behind fits refuses = absurd refuses
+refuses_whole (BadHead at) bytes rest begun behind fits refuses =
+    let whole : head ++ rest ≡ bytes =
+    ap (λ (l : List ℕ). head ++ l) behind ∙ ap (λ (l : List ℕ). l ++ drop 16 bytes) (sym begun.begins) ∙ take-append-drop 16 bytes in
+    (fits, subst (λ (l : List ℕ). BreaksAt l at) whole refuses)
+refuses_whole Disk bytes rest begun behind fits refuses = tt
+refuses_whole NoMemory bytes rest begun behind fits refuses = (begun, fits)
 
 pub begun_is : (payload : List ℕ) → IsPayload payload → IsJournal (payload ∷ []) (begun_of payload)
 unfolding begun_of

@@ -1,5 +1,5 @@
 -- Calls one after another, and what a stop since the first may leave.
-use Rattle.std.proofs.Common.{◌≡◌, inl, inr, ⊎_elim, ◌⊎◌, ℕ, ◌+◌, ◌≤◌, List, Option, Some, None, option_map, refl, sym, ◌∙◌, arith}
+use Rattle.std.proofs.Common.{◌≡◌, ⊎_elim, ◌⊎◌, ℕ, List, Option, Some, None, option_map, refl, sym}
 use Rattle.std.proofs.lemmas.Option.{same_Some}
 use Rattle.plant.specs.Stops.{Stops, LeftNow, LeftSince}
 use Rattle.plant.specs.Joining.{Joins, Stays, Follows}
@@ -20,24 +20,6 @@ module _ (a b c : Stops) (first : Joins a b) (second : Joins b c) where
   pub between : (image : List ℕ) (sent : List (List ℕ)) → LeftNow b image sent → LeftSince a b image sent
   between image sent left = b.earlier a.moment b.moment image sent first.later left
 
-  pub joins_on : Joins a c
-  joins_on = record {
-    later = omega (arith, first.later, second.later);
-    joined = λ t image sent le left.
-        ⊎_elim (λ mid. ⊎_elim (λ past. inl past) (λ since. inr (second.keeps a.moment image sent first.later since)) (first.joined t image sent le mid))
-        (λ since. inr (c.earlier a.moment b.moment image sent first.later since))
-        (second.joined t image sent (omega (arith, le, first.later)) left);
-    keeps = λ t image sent le left. second.keeps t image sent (omega (arith, le, first.later)) (first.keeps t image sent le left);
-  }
-
-pub stays_on : (a b c : Stops) → Stays a b → Stays b c → Stays a c
-stays_on a b c first second = record {
-  joins = joins_on a b c first.joins second.joins;
-  each = λ image sent left. ⊎_elim (λ mid. first.each image sent mid)
-      (λ since. first.each image sent (between a b c first.joins second.joins image sent (second.each image sent since)))
-      (parted a b c first.joins second.joins image sent left);
-}
-
 -- each kind of call keeps the sent list
 pub keeps_stays : (old new : Stops) → Stays old new → KeepsSent old new
 keeps_stays old new stays = record { joins = stays.joins; each = λ image sent left. (image, stays.each image sent left) }
@@ -48,9 +30,9 @@ keeps_follows step old new follows = record {
   each = λ image sent left. let from = follows.each image sent left in (from.0, from.1);
 }
 
-pub keeps_on : (a b c : Stops) → KeepsSent a b → KeepsSent b c → KeepsSent a c
-keeps_on a b c first second = record {
-  joins = joins_on a b c first.joins second.joins;
+pub keeps_on : (a b c : Stops) → Joins a c → KeepsSent a b → KeepsSent b c → KeepsSent a c
+keeps_on a b c joined first second = record {
+  joins = joined;
   each = λ image sent left. ⊎_elim (λ mid. first.each image sent mid)
       (λ since. let from = second.each image sent since in first.each from.0 sent (between a b c first.joins second.joins from.0 sent from.1))
       (parted a b c first.joins second.joins image sent left);

@@ -12,7 +12,7 @@ use crate::group::{first_chain, push_group};
 use crate::head::FIRST_GATE;
 use crate::writing::{commit, write_synced};
 use gate_base::NoMemory;
-use plant::{DiskFault, Plant};
+use plant::{DiskFault, Plant, runs_join};
 use std::alloc::Global;
 
 /// The head, and a closed gate behind it.
@@ -46,6 +46,7 @@ fn write_first<P: Plant>(plant: &mut P, piece: &[u8]) -> Result<(), DiskFault>
     ensures cause { HasCause (P.told plant.old).disk.faults (P.told plant.new).disk.faults result }
     ensures moments { KeepsSent (P.stops plant.old) (P.stops plant.new) }
 {
+    runs_join::<P>();
     write_synced(plant, 0, blank())?;
     commit(plant, FIRST_GATE, piece)
 }
@@ -72,6 +73,7 @@ pub fn begin<P: Plant>(alloc: Global, plant: &mut P, payload: &[u8]) -> Result<(
     ensures later { (P.told plant.old).disk.faults ≤ (P.told plant.new).disk.faults }
     ensures moments { KeepsSent (P.stops plant.old) (P.stops plant.new) }
 {
+    runs_join::<P>();
     let count = plant.length()?;
     if count != 0 {
         return Err(BeginFault::NotEmpty { length: count });

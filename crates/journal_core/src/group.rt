@@ -23,7 +23,7 @@ const LENGTH_BYTES: usize = 4;
 pub const CHAIN_BYTES: usize = 32;
 
 /// The bytes of a group and its gate, without the payload.
-const BARE_BYTES: u64 = 37;
+pub const BARE_BYTES: u64 = 37;
 
 /// The bytes that the group of a payload of this length takes, its gate included.
 pub fn group_total(count: u64) -> u64

@@ -11,7 +11,7 @@ ghost use Rattle.journal_core.specs.Mounting.{Refuses};
 ghost use Rattle.journal_core.specs.Standing.{Stands, MayAppend, TornCommit};
 
 use crate::fault::{AppendDisk, MountFault};
-use crate::group::{CHAIN_BYTES, push_group};
+use crate::group::{BARE_BYTES, CHAIN_BYTES, push_group};
 use crate::mounting::read_journal;
 use crate::writing::commit;
 use gate_base::{NoMemory, Payloads};
@@ -148,7 +148,7 @@ fn make_room(room: &mut Vec<u8>, longest: u64) -> Result<(), NoMemory>
     ensures capacity { vec_capacity room.old ≤ vec_capacity room.new }
     ensures ok { OnOk result (37 + longest ≤ vec_capacity room.new) }
 {
-    let total = longest.checked_add(37).ok_or(NoMemory)?;
+    let total = longest.checked_add(BARE_BYTES).ok_or(NoMemory)?;
     room.clear();
     room.reserve(total as usize)?;
     Ok(())

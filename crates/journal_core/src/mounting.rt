@@ -11,7 +11,7 @@ use crate::fault::MountFault;
 use crate::head::{HEAD_BYTES, is_head};
 use crate::reading::{Groups, read_groups};
 use gate_base::NoMemory;
-use plant::{MAX_BYTES, Plant};
+use plant::{MAX_BYTES, Plant, runs_join};
 use std::alloc::Global;
 
 /// The file's length, where it begins with the head and a gate, and isn't too long.
@@ -86,6 +86,7 @@ pub fn read_journal<P: Plant>(alloc: Global, plant: &mut P) -> Result<Groups, Mo
     ensures later { (P.told plant.old).disk.faults ≤ (P.told plant.new).disk.faults }
     ensures moments { Stays (P.stops plant.old) (P.stops plant.new) }
 {
+    runs_join::<P>();
     let end = begun_length(plant)?;
     let rest = read_rest(alloc, plant, end)?;
     let groups = read_groups(alloc, &rest)?;

@@ -9,7 +9,7 @@ ghost use Rattle.plant.specs.Joining.{Follows};
 ghost use Rattle.journal_core.specs.Standing.{Commits, TornCommit};
 
 use crate::group::OPEN;
-use plant::{DiskFault, MAX_BYTES, Plant};
+use plant::{DiskFault, MAX_BYTES, Plant, runs_join};
 
 /// Writes a piece, and makes it durable.
 pub fn write_synced<P: Plant>(plant: &mut P, at: u64, piece: &[u8]) -> Result<(), DiskFault>
@@ -40,6 +40,7 @@ pub fn commit<P: Plant>(plant: &mut P, at: u64, piece: &[u8]) -> Result<(), Disk
     ensures cause { HasCause (P.told plant.old).disk.faults (P.told plant.new).disk.faults result }
     ensures moments { Commits at piece.now (P.told plant.old).disk.bytes (P.stops plant.old) (P.stops plant.new) }
 {
+    runs_join::<P>();
     write_synced(plant, at + 1, piece)?;
     write_synced(plant, at, &[OPEN])
 }

@@ -4,7 +4,10 @@ use Rattle.journal_core.proofs.Moments.{keeps_on, keeps_stays, told_before}
 use Rattle.journal_core.proofs.beginning.begin.Goals as goal
 
 pub returns-in_err-write_first-clause-moments : goal.returns-in_err-write_first-clause-moments
-returns-in_err-write_first-clause-moments g c = keeps_on _ _ _ (keeps_stays _ _ c.length.ensures.moments) c.write_first.ensures.moments
+returns-in_err-write_first-clause-moments g c =
+    let first = c.length.ensures.moments in
+    let second = c.write_first.ensures.moments in
+    keeps_on _ _ _ (c.runs_join.ensures.joins c.args.plant.now c.length.new.self c.write_first.new.plant first.joins second.joins) (keeps_stays _ _ first) second
 
 pub returns-clause-ok : goal.returns-clause-ok
 unfolding begun_of
@@ -19,4 +22,7 @@ returns-clause-durable g c = λ image sent left.
     (sym (returns-clause-ok g c) ∙ c.in_ok-write_first.ensures.durable image sent left)).2
 
 pub returns-clause-moments : goal.returns-clause-moments
-returns-clause-moments g c = keeps_on _ _ _ (keeps_stays _ _ c.length.ensures.moments) c.write_first.ensures.moments
+returns-clause-moments g c =
+    let first = c.length.ensures.moments in
+    let second = c.write_first.ensures.moments in
+    keeps_on _ _ _ (c.runs_join.ensures.joins c.args.plant.now c.length.new.self c.write_first.new.plant first.joins second.joins) (keeps_stays _ _ first) second

@@ -1,4 +1,4 @@
-use Rattle.std.proofs.Common.{ℕ, List, Option, ◌≡◌, ◌∷◌, option_map, ◌∙◌, ap}
+use Rattle.std.proofs.Common.{ℕ, List, Option, ◌∷◌, option_map, ◌∙◌, ap}
 use Rattle.plant.specs.Plant.{overwritten}
 use Rattle.journal_core.proofs.Commits.{on_ok, first_written}
 use Rattle.journal_core.proofs.Moments.{keeps_on, keeps_follows}
@@ -16,4 +16,8 @@ returns-clause-ok g c =
     c.commit.ensures.ok
 
 pub returns-clause-moments : goal.returns-clause-moments
-returns-clause-moments g c = keeps_on _ _ _ (keeps_follows _ _ _ c.write_synced.ensures.moments) c.commit.ensures.moments.keeps
+returns-clause-moments g c =
+    let first = c.write_synced.ensures.moments in
+    let second = c.commit.ensures.moments.keeps in
+    keeps_on _ _ _ (c.runs_join.ensures.joins c.args.plant.now c.write_synced.new.plant c.commit.new.plant first.joins second.joins)
+    (keeps_follows _ _ _ first) second

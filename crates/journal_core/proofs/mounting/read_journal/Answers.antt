@@ -1,7 +1,6 @@
-use Rattle.std.proofs.Common.{ℕ, List, sym, ◌∙◌, subst, arith}
-use Rattle.journal_core.specs.Mounting.{EndsShut}
-use Rattle.journal_core.proofs.Gates.{whole_journal}
-use Rattle.journal_core.proofs.Moments.{stays_on}
+use Rattle.std.proofs.Common.{sym, ◌∙◌, subst, arith, Result, Ok, Err, IfErr, IsErrAnd}
+use Rattle.journal_core.specs.Mounting.{EndsShut, Refuses}
+use Rattle.journal_core.proofs.Gates.{whole_journal, refuses_whole}
 use Rattle.journal_core.proofs.mounting.read_journal.Goals as goal
 
 pub read_rest-requires-clause-begun : goal.read_rest-requires-clause-begun
@@ -15,4 +14,20 @@ returns-clause-ok g c = λ bytes told.
     (subst (EndsShut c.in_ok-groups.groups.payloads) c.deref.ensures.value c.in_ok-groups.ensures.ends)
 
 pub returns-clause-moments : goal.returns-clause-moments
-returns-clause-moments g c = stays_on _ _ _ c.begun_length.ensures.moments c.read_rest.ensures.moments
+returns-clause-moments g c =
+    c.runs_join.ensures.stays c.args.plant.now c.begun_length.new.plant c.read_rest.new.plant c.begun_length.ensures.moments c.read_rest.ensures.moments
+
+on_error : {T E : Type 0} (r : Result T E) (P Q : E → Type 0) → ((e : E) → P e → Q e) → IsErrAnd r P → IfErr r Q
+on_error (Ok x) P Q goes is = tt
+on_error (Err e) P Q goes is = goes e is
+
+pub returns-in_err-groups-clause-fault : goal.returns-in_err-groups-clause-fault
+returns-in_err-groups-clause-fault g c =
+    on_error c.from_residual-in_err-groups.result _ _
+    (λ fault is bytes told.
+    let refused = refuses_whole c.in_err-groups.field-0.0 bytes c.in_ok-rest.rest.items (c.in_ok-end.ensures.begun bytes told)
+    (c.in_ok-rest.ensures.rest bytes (c.begun_length.ensures.bytes ∙ told))
+    (omega (arith, c.in_ok-end.ensures.count bytes told, c.in_ok-end.ensures.fits))
+    (rw (sym c.deref.ensures.value) c.in_err-groups.ensures.fault) in
+    subst (λ f. Refuses f bytes) (sym is) refused)
+    c.from_residual-in_err-groups.ensures.1

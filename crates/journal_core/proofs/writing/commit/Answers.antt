@@ -18,3 +18,4 @@ pub returns-clause-moments : goal.returns-clause-moments
 returns-clause-moments g c =
     commits_both c.args.at c.args.piece.now _ _ _ _ _ c.requires.begins c.in_ok-write_synced.ensures.ok c.write_synced.ensures.moments
     c.in_ok-write_synced.ensures.durable c.write_synced-2.ensures.moments
+    (c.runs_join.ensures.joins c.args.plant.now c.write_synced.new.plant c.write_synced-2.new.plant c.write_synced.ensures.moments.joins c.write_synced-2.ensures.moments.joins)

@@ -1,6 +1,5 @@
-use Rattle.std.proofs.Common.{ℕ, List, ◌≡◌, ◌+◌, [], ◌∷◌, ◌++◌, ◌∙◌, ap, arith, option_map, length, length-append}
+use Rattle.std.proofs.Common.{◌≡◌, ◌+◌, [], ◌∷◌, ◌++◌, ◌∙◌, ap, arith, length, length-append}
 use Rattle.journal_core.specs.Journal.{JournalState, group}
-use Rattle.plant.specs.Plant.{overwritten}
 use Rattle.journal_core.proofs.Groups.{group_length}
 use Rattle.journal_core.proofs.Gates.{gate_within}
 use Rattle.journal_core.proofs.Appends.{may_append, stands_more, grown}
@@ -42,14 +41,11 @@ returns-in-Ok-clause-grown g c =
 pub returns-in-Ok-clause-ok : goal.returns-in-Ok-clause-ok
 returns-in-Ok-clause-ok g c =
     let new = returns-in-Ok-clause-grown g c in
-    let told = (g.P.Plant.told c.args.plant.now).disk.bytes in
-    let at = ap (λ (s : JournalState). s.at) c.self.view_is in
-    let piece = c.deref.ensures.value ∙ c.fill_room-chain.ensures.filled ∙ ap (λ (s : JournalState). group s.chain c.args.payload.now ++ 0 ∷ []) c.self.view_is in
-    let written = c.in-Ok.ensures.ok
-    ∙ ap (λ (n : ℕ). option_map (λ bytes. overwritten bytes n (1 ∷ c.deref.result.now)) told) at
-    ∙ ap (λ (l : List ℕ). option_map (λ bytes. overwritten bytes c.args.self.now.at (1 ∷ l)) told) piece in
-    stands_more c.args.self.now c.args.payload.now c.requires.payload c.requires.room told (g.P.Plant.stops c.args.plant.now) (g.P.Plant.stops c.commit.new.plant)
-    (g.met.P.Plant.reads c.args.plant.now) _ _ (ap (λ (s : JournalState). s.at) new) (ap (λ (s : JournalState). s.chain) new) written c.in-Ok.ensures.durable
+    stands_more c.args.self.now c.args.payload.now c.requires.payload c.requires.room (g.P.Plant.told c.args.plant.now).disk.bytes
+    (g.P.Plant.stops c.args.plant.now) (g.P.Plant.stops c.commit.new.plant) (g.met.P.Plant.reads c.args.plant.now) _ _
+    (ap (λ (s : JournalState). s.at) new) (ap (λ (s : JournalState). s.chain) new) _ _ (ap (λ (s : JournalState). s.at) c.self.view_is)
+    (c.deref.ensures.value ∙ c.fill_room-chain.ensures.filled ∙ ap (λ (s : JournalState). group s.chain c.args.payload.now ++ 0 ∷ []) c.self.view_is)
+    c.in-Ok.ensures.ok c.in-Ok.ensures.durable
 
 pub returns-in-Ok-clause-moments : goal.returns-in-Ok-clause-moments
 returns-in-Ok-clause-moments g c =
