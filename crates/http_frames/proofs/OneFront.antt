@@ -9,7 +9,7 @@ use Rattle.http_frames.specs.declared.fields.Framing.TheVariants.{Refused, Body}
 use Rattle.http_frames.specs.declared.front.Front.{Front}
 use Rattle.http_frames.specs.declared.front.Front.TheVariants as fronts
 use Rattle.http_frames.specs.Fields.{framing_of}
-use Rattle.http_frames.specs.Frames.{head_limit, body_limit, fields_of, message_of, IsFramed, HeadAt, IsNoHead, IsHeadBegun, Stands, AtMostOneFront}
+use Rattle.http_frames.specs.Frames.{head_limit, body_limit, fields_of, message_of, IsFramed, HeadAt, IsNoHead, IsHeadBegun, IsOpen, Stands, AtMostOneFront}
 
 -- ---- a head at the front
 
@@ -70,10 +70,10 @@ no_head_at bytes head rest none at = elim none [
       long.none head (take left rest) (at.reads.0, front)
 ]
 
-not_begun : (bytes : List ℕ) → IsNoHead bytes → IsHeadBegun bytes → (EndsInTarget bytes → ⊥) → ⊥
-not_begun bytes none begun closed = elim none [
-  | inl never ↦ elim begun.may [ inl may ↦ never may.0 may.1 [] may.2 | inr target ↦ closed target ]
-  | inr long ↦ omega (arith, long.long, begun.short)
+open_target : (bytes : List ℕ) → IsNoHead bytes → IsHeadBegun bytes → EndsInTarget bytes
+open_target bytes none begun = elim none [
+  | inl never ↦ elim begun.may [ inl may ↦ absurd (never may.0 may.1 [] may.2) | inr target ↦ target ]
+  | inr long ↦ absurd (omega (arith, long.long, begun.short))
 ]
 
 -- ---- what stands is one of three
@@ -136,10 +136,16 @@ means bytes (fronts.Unfinished needs) stands = elim stands [
       })
 ]
 
+unframed_open : (bytes : List ℕ) (front : Front) (status : ℕ) → EndsInTarget bytes → front ≡ fronts.Unframed status → IsOpen bytes front
+unframed_open bytes front status target is = subst (λ (f : Front). IsOpen bytes f) (sym is) target
+
+unfinished_open : (bytes : List ℕ) (front : Front) (needs : ℕ) → EndsInTarget bytes → front ≡ fronts.Unfinished needs → IsOpen bytes front
+unfinished_open bytes front needs target is = subst (λ (f : Front). IsOpen bytes f) (sym is) target
+
 pub one_front : AtMostOneFront
-one_front bytes left right x y closed = elim (means bytes left x) [
+one_front bytes left right x y = elim (means bytes left x) [
   | inl head ↦ elim (means bytes right y) [
-    | inl other ↦ one_head bytes left right head other
+    | inl other ↦ inl (one_head bytes left right head other)
     | inr other ↦ elim other [
       | inl none ↦ absurd (no_head_at bytes head.head head.rest none.0 head.at)
       | inr begun ↦ absurd (begun.0.none head.head head.rest head.at.reads)
@@ -148,11 +154,21 @@ one_front bytes left right x y closed = elim (means bytes left x) [
   | inr case ↦ elim case [
     | inl none ↦ elim (means bytes right y) [
       | inl head ↦ absurd (no_head_at bytes head.head head.rest none.0 head.at)
-      | inr other ↦ elim other [ inl also ↦ none.1 ∙ sym also.1 | inr begun ↦ absurd (not_begun bytes none.0 begun.0 closed) ]
+      | inr other ↦ elim other [
+        | inl also ↦ inl (none.1 ∙ sym also.1)
+        | inr begun ↦
+            let target = open_target bytes none.0 begun.0 in
+            inr (unframed_open bytes left 400 target none.1, unfinished_open bytes right (length bytes + 1) target begun.1)
+      ]
     ]
     | inr begun ↦ elim (means bytes right y) [
       | inl head ↦ absurd (begun.0.none head.head head.rest head.at.reads)
-      | inr other ↦ elim other [ inl none ↦ absurd (not_begun bytes none.0 begun.0 closed) | inr also ↦ begun.1 ∙ sym also.1 ]
+      | inr other ↦ elim other [
+        | inl none ↦
+            let target = open_target bytes none.0 begun.0 in
+            inr (unfinished_open bytes left (length bytes + 1) target begun.1, unframed_open bytes right 400 target none.1)
+        | inr also ↦ inl (begun.1 ∙ sym also.1)
+      ]
     ]
   ]
 ]

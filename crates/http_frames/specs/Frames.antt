@@ -122,10 +122,16 @@ Stands bytes (fronts.TooLarge used) = TooLargeAt bytes used
 Stands bytes (fronts.Unframed status) = IsUnframed bytes status
 Stands bytes (fronts.Unfinished needs) = IsUnfinishedUntil bytes needs
 
--- bytes stand for one front at most. Whether the beginning of a target that isn't UTF-8 can become a head is left open
--- until the target ends
+-- the bytes end inside a target, and it is left open whether they are refused or unfinished: that a target isn't UTF-8 is told
+-- at its end
+abbrev pub IsOpen : List ℕ → Front → Type 0
+IsOpen bytes (fronts.Unframed status) = EndsInTarget bytes
+IsOpen bytes (fronts.Unfinished needs) = EndsInTarget bytes
+IsOpen bytes other = ⊥
+
+-- one thing at most stands at the front of bytes
 abbrev pub AtMostOneFront : Type 0
-AtMostOneFront = (bytes : List ℕ) (left right : Front) → Stands bytes left → Stands bytes right → (EndsInTarget bytes → ⊥) → left ≡ right
+AtMostOneFront = (bytes : List ℕ) (left right : Front) → Stands bytes left → Stands bytes right → (left ≡ right) ⊎ (IsOpen bytes left × IsOpen bytes right)
 
 -- what stands at the front stays there, whatever bytes follow
 abbrev pub FrontsStay : Type 0
