@@ -191,52 +191,59 @@ fn records_permit_and_deny(rt: HostRuntime) -> Result<(), Fail> {
     Ok(())
 }
 
+/// A target, what its labels' questions were answered, how much later it is asked, and what is told.
+const AGES: [(&str, &[Answer], u64, Told); 10] = [
+    (
+        "a.b.example.com",
+        &[EMPTY, EMPTY, Some((60, OURS))],
+        0,
+        NOTHING,
+    ),
+    (
+        "a.b.example.com",
+        &[EMPTY, EMPTY, Some((60, NOBODY))],
+        0,
+        (9, 2, 0),
+    ),
+    ("example.com", &[None], 0, (6, 0, 0)),
+    ("example.com", &[EMPTY], 0, (6, 1, 0)),
+    ("example.com", &[Some((60, OURS))], 28_800, NOTHING),
+    (
+        "example.com",
+        &[Some((60, OURS))],
+        28_801,
+        (7, 1_790_028_800, 0),
+    ),
+    ("example.com", &[Some((40_000, OURS))], 40_000, NOTHING),
+    (
+        "example.com",
+        &[Some((40_000, OURS))],
+        40_001,
+        (7, 1_790_040_000, 0),
+    ),
+    (
+        "example.com",
+        &[Some((40_000, &[])), EMPTY],
+        28_800,
+        NOTHING,
+    ),
+    (
+        "example.com",
+        &[Some((40_000, &[])), EMPTY],
+        28_801,
+        (7, 1_790_028_800, 0),
+    ),
+];
+
 #[test]
 fn a_parent_is_asked_and_answers_age(rt: HostRuntime) -> Result<(), Fail> {
-    let rows: [(&str, &[Answer], u64, Told); 10] = [
-        (
-            "a.b.example.com",
-            &[EMPTY, EMPTY, Some((60, OURS))],
-            0,
-            NOTHING,
-        ),
-        (
-            "a.b.example.com",
-            &[EMPTY, EMPTY, Some((60, NOBODY))],
-            0,
-            (9, 2, 0),
-        ),
-        ("example.com", &[None], 0, (6, 0, 0)),
-        ("example.com", &[EMPTY], 0, (6, 1, 0)),
-        ("example.com", &[Some((60, OURS))], 28_800, NOTHING),
-        (
-            "example.com",
-            &[Some((60, OURS))],
-            28_801,
-            (7, 1_790_028_800, 0),
-        ),
-        ("example.com", &[Some((40_000, OURS))], 40_000, NOTHING),
-        (
-            "example.com",
-            &[Some((40_000, OURS))],
-            40_001,
-            (7, 1_790_040_000, 0),
-        ),
-        (
-            "example.com",
-            &[Some((40_000, &[])), EMPTY],
-            28_800,
-            NOTHING,
-        ),
-        (
-            "example.com",
-            &[Some((40_000, &[])), EMPTY],
-            28_801,
-            (7, 1_790_028_800, 0),
-        ),
-    ];
-    for (wanted, answers, after, want) in rows {
-        let told = told_of_answers(rt.alloc(), wanted, answers, 1_790_000_000 + after)?;
+    for (wanted, answers, after, want) in AGES {
+        let told = told_of_answers(
+            rt.alloc(),
+            wanted,
+            answers,
+            1_790_000_000_u64.saturating_add(after),
+        )?;
         assert_eq!(rt;
             told,
             want,
@@ -273,11 +280,9 @@ fn the_latest_answers_of_each_perspective_count(rt: HostRuntime) -> Result<(), F
 /// The histories and what is told of them come from a program that reads the whole list for each question.
 #[test]
 fn three_hundred_histories_are_told_as_by_a_plain_list(rt: HostRuntime) -> Result<(), Fail> {
-    let mut seed = 0;
-    for want in EXPECTED {
-        let sum = checksum(rt.alloc(), seed)?;
-        assert_eq!(rt; sum, want, "history {seed}");
-        seed += 1;
+    for (seed, want) in EXPECTED.iter().enumerate() {
+        let sum = checksum(rt.alloc(), seed as u64)?;
+        assert_eq!(rt; sum, *want, "history {seed}");
     }
     Ok(())
 }
