@@ -11,3 +11,6 @@ mod why;
 
 pub use index::Index;
 pub use why::Why;
+
+#[cfg(test)]
+mod tests;
