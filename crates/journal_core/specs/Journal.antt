@@ -58,8 +58,8 @@ HasRoom at total = at + total + 1 ≤ most_bytes
 unfoldable pub begun_of : List ℕ → List ℕ
 begun_of payload = head ++ 1 ∷ (group no_chain payload ++ 0 ∷ [])
 
--- the bytes are the journal of these payloads: groups behind open gates, up to the first gate that isn't 1, and no more than
--- 67,108,864. Behind that gate anything may stand
+-- the bytes are the journal of these payloads: groups behind open gates, up to the first gate that isn't 1, and no more
+-- than 67,108,864. Behind that gate anything may stand
 pub record IsJournal (payloads : List (List ℕ)) (bytes : List ℕ) : Type 0 where
   pub gate : ℕ
   pub rest : List ℕ
@@ -72,10 +72,11 @@ pub record IsJournal (payloads : List (List ℕ)) (bytes : List ℕ) : Type 0 wh
 abbrev pub length_at_front : List ℕ → ℕ
 length_at_front bytes = from_be_bytes w32 (take 4 bytes)
 
--- behind an open gate no group stands: it doesn't lie whole in the bytes with the gate behind it, its length is that of no
+-- behind an open gate no group stands: none lies whole in the bytes with a gate behind it, or its length is that of no
 -- payload, or its chain is not that of the chain before and its payload
 abbrev pub LacksGroup : List ℕ → List ℕ → Type 0
-LacksGroup chain bytes = (length bytes < 37 + length_at_front bytes) ⊎ (length_at_front bytes < 1) ⊎ (1114112 < length_at_front bytes)
+LacksGroup chain bytes = (length bytes < 37 + length_at_front bytes)
+    ⊎ (length_at_front bytes < 1) ⊎ (1114112 < length_at_front bytes)
     ⊎ (take 32 (drop 4 bytes) ≢ chained chain (take (length_at_front bytes) (drop 36 bytes)))
 
 -- the bytes are groups up to this place, and the gate there is open before no group
