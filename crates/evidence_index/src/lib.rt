@@ -11,6 +11,3 @@ mod why;
 
 pub use index::Index;
 pub use why::Why;
-
-#[cfg(test)]
-mod tests;

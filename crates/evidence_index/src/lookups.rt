@@ -19,7 +19,7 @@ pub fn is_by(caller: &[u8], entry: &Entry) -> bool
     entry.caller.as_slice() == caller
 }
 
-pub fn is_settings(what: &What) -> bool
+fn is_settings(what: &What) -> bool
     ensures { result ≡ spec.is_settings what.now }
 {
     match what {
@@ -84,7 +84,7 @@ pub fn settings_at(
     }
 }
 
-pub fn is_challenge(what: &What) -> bool
+fn is_challenge(what: &What) -> bool
     ensures { result ≡ spec.is_challenge what.now }
 {
     match what {

@@ -144,7 +144,11 @@ fn is_order(command: &Command) -> bool {
                 && request.as_slice() == b"0\0".as_slice()
                 && are_its_names(targets)
         }
-        Command::Finalize { .. } | Command::Block { .. } => false,
+        Command::Challenge { .. }
+        | Command::Observe { .. }
+        | Command::ObserveCaa { .. }
+        | Command::Finalize { .. }
+        | Command::Block { .. } => false,
     }
 }
 
