@@ -475,11 +475,17 @@ fn commands_fit_and_have_their_roles(rt: HostRuntime) {
 }
 
 #[test]
-fn new_commands_fit_and_have_their_roles(rt: HostRuntime) {
+fn challenges_fit_and_have_their_roles(rt: HostRuntime) {
     let alloc = rt.alloc();
     for (key, fits) in [(255usize, true), (256, false)] {
         assert_eq!(rt; challenge(alloc, key).fits(), fits, "{key}");
     }
+    assert_eq!(rt; roles(&challenge(alloc, 1)), (true, false, false));
+}
+
+#[test]
+fn observations_fit_and_have_their_roles(rt: HostRuntime) {
+    let alloc = rt.alloc();
     for (count, size, fits) in [
         (255usize, 0usize, true),
         (256, 0, false),
@@ -488,12 +494,15 @@ fn new_commands_fit_and_have_their_roles(rt: HostRuntime) {
         (16, 65_535, true),
         (17, 65_535, false),
     ] {
-        assert_eq!(rt;
-            observe(alloc, count, size).fits(),
-            fits,
-            "{count} of {size}"
-        );
+        let command = observe(alloc, count, size);
+        assert_eq!(rt; command.fits(), fits, "{count} of {size}");
     }
+    assert_eq!(rt; roles(&observe(alloc, 1, 1)), (false, true, false));
+}
+
+#[test]
+fn caa_answers_fit_and_have_their_roles(rt: HostRuntime) {
+    let alloc = rt.alloc();
     for (count, records, size, fits) in [
         (255usize, 1usize, 0usize, true),
         (256, 0, 0, false),
@@ -506,8 +515,6 @@ fn new_commands_fit_and_have_their_roles(rt: HostRuntime) {
         let command = observe_caa(alloc, count, records, size);
         assert_eq!(rt; command.fits(), fits, "{count} of {records} of {size}");
     }
-    assert_eq!(rt; roles(&challenge(alloc, 1)), (true, false, false));
-    assert_eq!(rt; roles(&observe(alloc, 1, 1)), (false, true, false));
     assert_eq!(rt; roles(&observe_caa(alloc, 1, 1, 1)), (false, true, false));
 }
 
