@@ -214,8 +214,9 @@ def calls_of(crate):
             if named := re.match(r"\s*(?:pub(?:\(\w+\))? )?(?:fn|struct|enum|trait) (\w+)", line):
                 name = named.group(1)
                 found.setdefault(name, set())
-            elif name and (clause := re.match(r"\s*ensures (\w+)? ?\{", line)):
-                found[name].add(clause.group(1))
+            # A law of a trait is written as a ghost member.
+            elif name and (clause := re.match(r"\s*(?:ensures (\w+)? ?\{|ghost (\w+): )", line)):
+                found[name].add(clause.group(1) or clause.group(2))
     return found
 
 
