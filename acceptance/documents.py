@@ -5,6 +5,7 @@ These are cases of `acceptance/commands`. A block of a document is marked by its
 spaces or more a remark; `11 × 64` stands for 64 bytes 11.
 """
 
+import hashlib
 import os
 import re
 import tomllib
@@ -111,6 +112,10 @@ def journal(gate):
     written = gate.bytes()
     begun, order = written[:BEGUN_BYTES], written[BEGUN_BYTES:]
     check("a begun journal", (begun[:29] + at + begun[37:]).hex(), found["journal"].hex())
+    payload = found["journal"][20:]
+    chain = hashlib.sha256(bytes(32) + payload).digest()
+    gates = b"gate journal 01\n\x01" + len(payload).to_bytes(4, "big") + chain + payload + b"\0"
+    check("the same with gates", gates.hex(), found["gates"].hex())
     check("an order", (order[:13] + at + order[21:]).hex(), found["order"].hex())
     gate.run("session", sent=finalize(2))
     written = gate.bytes()

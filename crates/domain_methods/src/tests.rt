@@ -157,7 +157,7 @@ fn seen_as(alloc: Global, kind: Kind) -> Option<Seen> {
     }
 }
 
-/// The number of the rule that is broken, or 0; 255 stands for want of memory.
+/// The number of the rule that is broken, or 0; 255 stands for out of memory.
 fn rule(alloc: Global, c: &Challenge, seen: &Seen, at: u64) -> u8 {
     match confirms(alloc, c, seen, Moment(at)) {
         Ok(Verdict::Good) => 0,

@@ -23,7 +23,8 @@ const MOST_GIVEN: u64 = 1_114_029;
 
 impl Command {
     /// Whether each field is within its limit: keys, names and lists have at most 255 bytes or members, requests, blocked
-    /// keys and what was seen at most 65,535 bytes, and the entry at most 1,114,112 bytes.
+    /// keys and each record, address, location and body that was seen at most 65,535 bytes, and the entry at most 1,114,112
+    /// bytes.
     #[tactic(auto, using(crate::proofs::Sizes::fits_command))]
     pub fn fits(&self) -> bool
         ensures fits { IsTrue result ↔ Fits self.now }

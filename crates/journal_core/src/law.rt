@@ -19,7 +19,7 @@ pub fn one_break()
     ensures no_journal { (bytes : List ℕ) (at : ℕ) (payloads : List (List ℕ)) → BreaksAt bytes at → IsJournal payloads bytes → ⊥ }
 {}
 
-/// A journal isn't refused, unless by a fault of the disk or for want of memory.
+/// A journal isn't refused, unless the disk fails or memory runs out.
 pub fn no_journal_is_refused()
     ensures { (bytes : List ℕ) (payloads : List (List ℕ)) (fault : MountFaultValue) → IsJournal payloads bytes → Refuses fault bytes → IsOutside fault }
 {}
