@@ -8,11 +8,22 @@ use Rattle.gate_entries.specs.declared.entry.Entry.{Entry}
 use Rattle.gate_entries.specs.declared.entry.What.{What}
 use Rattle.gate_entries.specs.declared.entry.What.TheVariants as whats
 use Rattle.gate_entries.specs.declared.reply.Reply.{Reply}
-use Rattle.gate_entries.specs.declared.reply.Reply.TheVariants.{KeyReused, ClockFault, EntropyFault, DiskFault, SignerFault, JournalBad, NoMemory}
+use Rattle.gate_entries.specs.declared.reply.Reply.TheVariants.{BadFields, KeyReused, ClockFault, EntropyFault, DiskFault, SignerFault, JournalBad, NoMemory}
 use Rattle.gate_machine.specs.declared.answer.Answer.{Answer}
 use Rattle.gate_machine.specs.declared.answer.Answer.TheVariants.{Say, Write, Send, NeedDraw}
 use Rattle.gate_machine.specs.Sends.{body_in, sent_by}
-use Rattle.gate_machine.specs.Answer.{Answers, AnswersCommand, AnswersEntry, AnswersNew, AnswersRoom, SaysKept, AnswersFinalize, AnswersOrder, AnswersUnsigned, AnswersDrawn, AnswersSerial, AnswersBody, reply_to}
+use Rattle.gate_machine.specs.declared.draft.Draft.{Draft}
+use Rattle.gate_machine.specs.declared.draft.Used.{Used}
+use Rattle.gate_machine.specs.declared.draft.Used.TheVariants as uses
+use Rattle.gate_machine.specs.declared.place.Place.{Place}
+use Rattle.gate_machine.specs.Cases.{Is}
+use Rattle.gate_machine.specs.Draft.{says, writes, JudgesKept, JudgesFields, UnderKey}
+use Rattle.gate_machine.specs.Sight.{Sight, sight_of, place_of, entry_at}
+use Rattle.gate_machine.specs.Commands.Order.{placed, OrderBreaks}
+use Rattle.gate_machine.specs.Commands.Block.{blocked, BlockBreaks}
+use Rattle.gate_machine.specs.Commands.Finalize.{JudgesBody, JudgesUnsigned, JudgesFinalize}
+use Rattle.gate_machine.specs.Ends.{EndsFull, EndsRepeated}
+use Rattle.gate_machine.specs.Answer.{Answers, Judges, reply_to}
 use Rattle.gate_machine.specs.Move.{Held, SignerCall, Given, HasFaults, EndsRemount, Wrote, Sent, Does, Acts, Asks, Goes, Moves}
 
 -- replies that tell a failure, and nothing of what was asked
@@ -35,112 +46,119 @@ MayFollow NeedDraw = Unit {0}
 as_answer : (answer other : Answer) → answer ≡ other → MayFollow other → MayFollow answer
 as_answer answer other is may = subst MayFollow (sym is) may
 
--- ---- what is written under a key
+-- ---- drafts
 
 kept : (what : What) (number : ℕ) → is_failure (reply_to what number) ≡ false
+kept (whats.Settings bytes) number = refl
+kept (whats.Order key common days targets request) number = refl
+kept (whats.Challenge key order method target value thumb) number = refl
+kept (whats.Observation key challenge seen_at seen) number = refl
+kept (whats.CaaAnswer key order target seen_at answers) number = refl
+kept (whats.Send order body) number = refl
+kept (whats.Signed order signature) number = refl
 kept (whats.Blocked key spki) number = refl
-kept what number = refl
 
-says : (kept_entry entry : Entry) (reply : Reply) → SaysKept kept_entry entry reply → is_failure reply ≡ false
-says kept_entry entry reply is = elim is [
-  | inl same ↦ ap is_failure same.1 ∙ kept kept_entry.what kept_entry.number
-  | inr other ↦ ap is_failure other.1
+abbrev DraftMay : Draft → Type 0
+DraftMay draft = MayFollow draft.answer
+
+as_draft : (draft other : Draft) → draft ≡ other → DraftMay other → DraftMay draft
+as_draft draft other is may = subst DraftMay (sym is) may
+
+kept_may : (command : Command) (reply : Entry → Reply) (kept_entry : Entry) (draft : Draft) → is_failure (reply kept_entry) ≡ false
+    → JudgesKept command reply kept_entry draft → DraftMay draft
+kept_may command reply kept_entry draft may is = elim is [
+  | inl same ↦ as_draft draft (says (reply kept_entry)) same.1 may
+  | inr other ↦ as_draft draft (says (KeyReused kept_entry.number)) other.1 refl
 ]
 
-no_disk : (what : What) (number : ℕ) → reply_to what number ≢ DiskFault
-no_disk (whats.Blocked key spki) number is = cc is
-no_disk (whats.Settings bytes) number is = cc is
-no_disk (whats.Challenge key order method target value thumb) number is = cc is
-no_disk (whats.Observation key challenge seen_at seen) number is = cc is
-no_disk (whats.CaaAnswer key order target seen_at answers) number is = cc is
-no_disk (whats.Order key common days targets request) number is = cc is
-no_disk (whats.Send order body) number is = cc is
-no_disk (whats.Signed order signature) number is = cc is
-
-no_reuse : (number : ℕ) → KeyReused number ≢ DiskFault
-no_reuse number is = cc is
-
-pub kept_is_no_disk_fault : (kept_entry entry : Entry) (reply : Reply) → SaysKept kept_entry entry reply → reply ≢ DiskFault
-kept_is_no_disk_fault kept_entry entry reply is fault = elim is [
-  | inl same ↦ no_disk kept_entry.what kept_entry.number (sym same.1 ∙ fault)
-  | inr other ↦ no_reuse kept_entry.number (sym other.1 ∙ fault)
+fields_may : (breaks : ℕ → Type 0) (good : Draft → Type 0) (draft : Draft) → (good draft → DraftMay draft) → JudgesFields breaks good draft → DraftMay draft
+fields_may breaks good draft goes_on is = elim is.2 [
+  | inl none ↦ goes_on none.1
+  | inr some ↦ as_draft draft (says (BadFields some.0)) some.2 refl
 ]
 
-room : (history : List Entry) (entry : Entry) (answer : Answer) → AnswersRoom history entry answer → MayFollow answer
-room history entry answer answers = elim answers [
-  | inl full ↦ as_answer answer _ full.1 refl
-  | inr fits ↦ as_answer answer _ fits.1 tt
+-- a command that says all of its entry
+written_may : (sight : Sight) (key : List ℕ) (command : Command) (reply : Entry → Reply) (breaks : ℕ → Type 0) (entry : Entry) (draft : Draft)
+    → ((e : Entry) → is_failure (reply e) ≡ false) → UnderKey sight key command reply (JudgesFields breaks (Is (writes entry))) draft → DraftMay draft
+written_may sight key command reply breaks entry draft may is = elim is [
+  | inl new ↦ fields_may breaks (Is (writes entry)) draft (λ good. as_draft draft (writes entry) good tt) new.1
+  | inr stands ↦ kept_may command reply stands.0 draft (may stands.0) stands.2
 ]
 
-new_key : (history : List Entry) (entry : Entry) (answer : Answer) → AnswersNew history entry answer → MayFollow answer
-new_key history entry answer answers = elim answers [
-  | inl fields ↦ as_answer answer _ fields.answer_is refl
-  | inr good ↦ room history entry answer good.1
-]
+module _ (sight : Sight) (place : Place) (caller : Caller) (number : ℕ) (draft : Draft) where
+  body_may : (order : Entry) (used : Used) (body : List ℕ) → JudgesBody sight place caller number order used body draft → DraftMay draft
+  body_may order used body is = elim is.2 [
+    | inl free ↦ as_draft draft _ free.1 refl
+    | inr blocked ↦ as_draft draft _ blocked.2 refl
+  ]
 
-entry_may : (history : List Entry) (entry : Entry) (answer : Answer) → AnswersEntry history entry answer → MayFollow answer
-entry_may history entry answer answers = elim answers [
-  | inl stands ↦ as_answer answer _ stands.answer_is (says stands.kept entry stands.reply stands.says)
-  | inr new ↦ new_key history entry answer new.1
-]
+  unsigned_may : (drawn : Option Sixteen) (order : Entry) → JudgesUnsigned sight place caller number drawn order draft → DraftMay draft
+  unsigned_may drawn order is = elim is [
+    | inl new ↦ elim new.1 [
+      | inl undrawn ↦ as_draft draft _ undrawn.1 tt
+      | inr with_draw ↦ body_may order _ _ with_draw.2
+    ]
+    | inr again ↦ body_may order _ _ again.2
+  ]
 
--- ---- what is finalized
-
-module _ (history : List Entry) (caller : Caller) (reading number : ℕ) (order : Entry) (answer : Answer) where
-  body_may : (body : List ℕ) → AnswersBody history caller reading number order body answer → MayFollow answer
-  body_may body is = elim is.answers [
-    | inl blocked ↦ as_answer answer _ blocked.answer_is refl
-    | inr free ↦ elim free.1 [
-      | inl full ↦ as_answer answer _ full.1 refl
-      | inr fits ↦ as_answer answer _ fits.1 refl
+  finalize_may : (drawn : Option Sixteen) → JudgesFinalize sight place caller number drawn draft → DraftMay draft
+  finalize_may drawn is = elim is [
+    | inl none ↦ as_draft draft _ none.1 refl
+    | inr own ↦ elim own.2 [
+      | inl unsigned ↦ unsigned_may drawn own.0 unsigned.1
+      | inr signed ↦ elim signed.2 [
+        | inl never ↦ absurd never.1
+        | inr sent ↦ as_draft draft _ sent.2.2 refl
+      ]
     ]
   ]
 
-  serial_may : (draw : Sixteen) → AnswersSerial history caller reading number order draw answer → MayFollow answer
-  serial_may draw answers = elim answers [
-    | inl repeats ↦ as_answer answer _ repeats.1 refl
-    | inr new ↦ body_may _ new.1
-  ]
+judges_may : (sight : Sight) (place : Place) (caller : Caller) (command : Command) (drawn : Option Sixteen) (draft : Draft)
+    → Judges sight place caller command drawn draft → DraftMay draft
+judges_may sight place caller (commands.Order key targets days common request) drawn draft is =
+    written_may sight key (commands.Order key targets days common request) (λ kept. placed kept.number) (OrderBreaks key common days targets request)
+    (entry_at place caller (whats.Order key common days targets request)) draft (λ e. refl) is
+judges_may sight place caller (commands.Challenge key order target method) drawn draft is = as_draft draft _ is refl
+judges_may sight place caller (commands.Observe key challenge seen_at seen) drawn draft is = as_draft draft _ is refl
+judges_may sight place caller (commands.ObserveCaa key order target seen_at caa) drawn draft is = as_draft draft _ is refl
+judges_may sight place caller (commands.Finalize number) drawn draft is = finalize_may sight place caller number draft drawn is
+judges_may sight place caller (commands.Block key spki) drawn draft is =
+    written_may sight key (commands.Block key spki) (λ kept. blocked kept.number) (BlockBreaks key spki) (entry_at place caller (whats.Blocked key spki)) draft
+    (λ e. refl) is
 
-  drawn_may : (drawn : Option Sixteen) → AnswersDrawn history caller reading number order drawn answer → MayFollow answer
-  drawn_may None answers = as_answer answer _ answers tt
-  drawn_may (Some draw) answers = serial_may draw answers
+-- ---- answers
 
-  unsigned_may : (drawn : Option Sixteen) → AnswersUnsigned history caller reading number order drawn answer → MayFollow answer
-  unsigned_may drawn answers = elim answers [
-    | inl again ↦ body_may _ again.answers
-    | inr new ↦ drawn_may drawn new.1
-  ]
-
-  order_may : (drawn : Option Sixteen) → AnswersOrder history caller reading number order drawn answer → MayFollow answer
-  order_may drawn answers = elim answers [
-    | inl signed ↦ as_answer answer _ signed.answer_is refl
-    | inr unsigned ↦ unsigned_may drawn unsigned.1
-  ]
-
-finalize_may : (history : List Entry) (caller : Caller) (reading number : ℕ) (drawn : Option Sixteen) (answer : Answer)
-    → AnswersFinalize history caller reading number drawn answer → MayFollow answer
-finalize_may history caller reading number drawn answer answers = elim answers [
-  | inl none ↦ as_answer answer _ none.1 refl
-  | inr own ↦ order_may history caller reading number own.order answer drawn own.answers
+full_may : (history : List Entry) (drafted answer : Answer) → MayFollow drafted → EndsFull history drafted answer → MayFollow answer
+full_may history (Say reply) answer may is = as_answer answer _ is may
+full_may history (Write entry) answer may is = elim is [
+  | inl fits ↦ as_answer answer _ fits.1 may
+  | inr full ↦ as_answer answer _ full.1 refl
 ]
+full_may history (Send entry) answer may is = elim is [
+  | inl fits ↦ as_answer answer _ fits.1 may
+  | inr full ↦ as_answer answer _ full.1 refl
+]
+full_may history NeedDraw answer may is = as_answer answer _ is may
 
--- ---- commands
-
-command_may : (history : List Entry) (caller : Caller) (command : Command) (reading : ℕ) (drawn : Option Sixteen) (answer : Answer)
-    → AnswersCommand history caller command reading drawn answer → MayFollow answer
-command_may history caller (commands.Finalize number) reading drawn answer answers = finalize_may history caller reading number drawn answer answers
-command_may history caller (commands.Order key targets days common request) reading drawn answer answers = entry_may history answers.entry answer answers.answers
-command_may history caller (commands.Challenge key order target method) reading drawn answer answers = as_answer answer _ answers refl
-command_may history caller (commands.Observe key challenge seen_at seen) reading drawn answer answers = as_answer answer _ answers refl
-command_may history caller (commands.ObserveCaa key order target seen_at caa) reading drawn answer answers = as_answer answer _ answers refl
-command_may history caller (commands.Block key spki) reading drawn answer answers = entry_may history answers.entry answer answers.answers
+ends_may : (history : List Entry) (used : Used) (drafted answer : Answer) → MayFollow drafted → EndsRepeated history used (EndsFull history drafted) answer → MayFollow answer
+ends_may history uses.Nothing drafted answer may is = full_may history drafted answer may is
+ends_may history (uses.Serial draw) drafted answer may is = elim is [
+  | inl new ↦ full_may history drafted answer may new.1
+  | inr repeats ↦ as_answer answer _ repeats.2 refl
+]
 
 pub may_follow : (history : List Entry) (caller : Caller) (command : Command) (reading : ℕ) (drawn : Option Sixteen) (answer : Answer)
     → Answers history caller command reading drawn answer → MayFollow answer
 may_follow history caller command reading drawn answer answers = elim answers [
-  | inl out ↦ as_answer answer _ out.1 refl
-  | inr in_range ↦ command_may history caller command reading drawn answer in_range.1
+  | inl denied ↦ as_answer answer _ denied.1 refl
+  | inr allowed ↦ elim allowed.1 [
+    | inl out ↦ as_answer answer _ out.1 refl
+    | inr in_range ↦ (
+        let judged = in_range.1 in
+        ends_may history judged.0.used judged.0.answer answer
+        (judges_may (sight_of caller history) (place_of history reading) caller command drawn judged.0 judged.1) judged.2
+        )
+  ]
 ]
 
 -- ---- another journal

@@ -7,7 +7,8 @@ use Rattle.gate_base.specs.declared.name.Target.{Target}
 use Rattle.csr10.specs.declared.fault.CsrFault.{CsrFault}
 use Rattle.csr10.specs.declared.fault.CsrFault.TheVariants as requests
 use Rattle.csr10.specs.Csr.{Fields, IsCsr, IsFirstFault}
-use Rattle.gate_machine.specs.Rules.{HasBadKey, NamesBreak, rule_of, HasFault, IsOther, RequestBreaks, OrderBreaks, IsLeast, TellsLeast}
+use Rattle.gate_machine.specs.Commands.Order.{NamesBreak, rule_of, HasFault, IsOther, RequestBreaks, OrderBreaks}
+use Rattle.gate_machine.specs.Rules.{HasBadKey, IsLeast, TellsLeast}
 
 -- ---- which numbers the rules have
 

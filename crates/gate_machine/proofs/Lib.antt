@@ -1,5 +1,6 @@
 pub mod Bodies
 pub mod Sends
+pub mod Own
 pub mod Histories
 pub mod Faults
 pub mod Recorded
@@ -7,3 +8,4 @@ pub mod Moves
 pub mod Steps
 pub mod Serials
 pub mod LeastRule
+pub mod Rows

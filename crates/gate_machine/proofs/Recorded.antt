@@ -1,5 +1,5 @@
 -- Each body that the signer was sent has an entry of its own.
-use Rattle.std.proofs.Common.{◌≡◌, ℕ, List, [], ◌∷◌, ◌++◌, Option, Some, None, refl, sym, ap, subst, ◌∙◌, inl, inr, append-nil}
+use Rattle.std.proofs.Common.{◌≡◌, ℕ, true, List, [], ◌∷◌, ◌++◌, Option, Some, None, refl, sym, ap, subst, ◌∙◌, inl, inr, append-nil}
 use Rattle.std.specs.Prelude.{IfSome, option_to_list}
 use Rattle.std.specs.Option.{option_map}
 use Rattle.std.proofs.lemmas.Grind.{flat_map-append}
@@ -10,7 +10,9 @@ use Rattle.gate_entries.specs.declared.entry.Entry.{Entry}
 use Rattle.gate_entries.specs.declared.reply.Reply.{Reply}
 use Rattle.gate_machine.specs.declared.answer.Answer.{Answer}
 use Rattle.gate_machine.specs.declared.answer.Answer.TheVariants.{Say, Write, Send, NeedDraw}
-use Rattle.gate_machine.specs.Sends.{body_in, sent_by, Within}
+use Rattle.gate_entries.specs.declared.entry.What.{What}
+use Rattle.gate_entries.specs.declared.entry.What.TheVariants as whats
+use Rattle.gate_machine.specs.Sends.{is_send_for, order_in, body_in, sent_by, Within}
 use Rattle.gate_machine.specs.Move.{Held, SignerCall, Given, Settles, Wrote, Sent, Does, Acts, Asks, Goes, Moves}
 use Rattle.gate_machine.specs.Step.{SignerFails, Signs, GivesCall, State, Step, bodies_of, IsRecorded}
 use Rattle.gate_base.specs.declared.sixteen.Sixteen.{Sixteen}
@@ -73,6 +75,27 @@ module _ (history : List Entry) (entry : Entry) (sends : sent_by entry.what ≡ 
   kept_list signer signer' is recorded =
       subst (λ (o : Option (List (List ℕ))). IfSome o (λ sent. Within sent (bodies_of (history ++ entry ∷ [])))) (sym is)
       (recorded_more signer history (entry ∷ []) recorded)
+
+pub within_entries : (sent : List (List ℕ)) (history more : List Entry) → Within sent (bodies_of history) → Within sent (bodies_of (history ++ more))
+within_entries sent history more within =
+    subst (λ (all : List (List ℕ)). Within sent all) (sym (flat_map-append (λ (e : Entry). sent_by e.what) history more))
+    (within_more sent (bodies_of history) (bodies_of more) within)
+
+sends_its_body : (what : What) → is_send_for (order_in what) what ≡ true → sent_by what ≡ body_in what ∷ []
+sends_its_body (whats.Send order body) is = refl
+sends_its_body (whats.Settings bytes) is = absurd cc
+sends_its_body (whats.Order key common days targets request) is = absurd cc
+sends_its_body (whats.Challenge key order method target value thumb) is = absurd cc
+sends_its_body (whats.Observation key challenge seen_at seen) is = absurd cc
+sends_its_body (whats.CaaAnswer key order target seen_at answers) is = absurd cc
+sends_its_body (whats.Signed order signature) is = absurd cc
+sends_its_body (whats.Blocked key spki) is = absurd cc
+
+pub within_sent : (sent : List (List ℕ)) (history : List Entry) (entry : Entry) → is_send_for (order_in entry.what) entry.what ≡ true
+    → Within sent (bodies_of history) → Within (sent ++ body_in entry.what ∷ []) (bodies_of (history ++ entry ∷ []))
+within_sent sent history entry is within =
+    subst (λ (all : List (List ℕ)). Within (sent ++ body_in entry.what ∷ []) all) (sym (all_bodies history entry (sends_its_body entry.what is)))
+    (within_both sent (bodies_of history) (body_in entry.what) within)
 
 as_history : (signer : SignerTold) (history now : List Entry) → now ≡ history → IsRecorded signer history → IsRecorded signer now
 as_history signer history now is recorded = subst (λ (h : List Entry). IsRecorded signer h) (sym is) recorded

@@ -13,10 +13,11 @@ use Rattle.gate_entries.specs.declared.entry.Entry.{Entry}
 use Rattle.gate_entries.specs.declared.entry.What.{What}
 use Rattle.gate_entries.specs.declared.entry.What.TheVariants.{Settings, Order, Challenge, Observation, CaaAnswer, Send, Signed, Blocked}
 use Rattle.gate_entries.specs.Spelling.{IsWhat}
-use Rattle.gate_machine.specs.History.{MeetsRow, ComesSigned, Follows, EachFollows}
+use Rattle.gate_machine.specs.History.{MeetsRow, Follows, EachFollows}
+use Rattle.gate_machine.specs.Commands.Order.{IsGoodOrder}
+use Rattle.gate_machine.specs.Commands.Finalize.{ComesToSigner, ComesSigned}
 use Rattle.gate_machine.specs.Keys.{is_same}
-use Rattle.gate_machine.specs.Rules.{BreaksNone}
-use Rattle.gate_machine.specs.Sends.{is_order, is_own_order, own_order, is_send_for, sent_for, is_signed_for, signed_for, body_in, signature_in, targets_of, serial_in, send_with, order_in, IsGoodBody, HasOneBodyEach, small_bytes, IsNewBody, IsFresh, HasFreshSerial, TellsNewSerial, IsBodyOf, ComesToSigner}
+use Rattle.gate_machine.specs.Sends.{is_order, is_own_order, own_order, is_send_for, sent_for, is_signed_for, signed_for, body_in, signature_in, targets_of, serial_in, send_with, order_in, IsGoodBody, HasOneBodyEach, small_bytes, IsNewBody, IsFresh, HasFreshSerial, TellsNewSerial, IsBodyOf}
 use Rattle.gate_machine.proofs.Bodies.{serial_of_small, all_short}
 
 -- ---- an entry that is found came behind those before it
@@ -67,13 +68,16 @@ module _ (p : Entry → Bool) where
 
 -- ---- orders
 
-first_holds : (x y z : Bool) → (x && y && z) ≡ true → z ≡ true
-first_holds true true z all = all
-first_holds true false z all = absurd cc
-first_holds false y z all = absurd cc
+pub and_left : (x y : Bool) → (x && y) ≡ true → x ≡ true
+and_left true y all = refl
+and_left false y all = absurd cc
+
+pub and_right : (x y : Bool) → (x && y) ≡ true → y ≡ true
+and_right true y all = all
+and_right false y all = absurd cc
 
 -- an order broke no rule when it came
-order_kept : (what : What) (before : List Entry) (caller : List ℕ) (moment : Moment) → is_order what ≡ true → MeetsRow before caller moment what → BreaksNone what
+order_kept : (what : What) (before : List Entry) (caller : List ℕ) (moment : Moment) → is_order what ≡ true → MeetsRow before caller moment what → IsGoodOrder what
 order_kept (Order key common days targets request) before caller moment is row = row.fields
 order_kept (Settings bytes) before caller moment is row = absurd cc
 order_kept (Challenge key order method target value thumb) before caller moment is row = absurd cc
@@ -83,18 +87,36 @@ order_kept (Send number body) before caller moment is row = absurd cc
 order_kept (Signed number signature) before caller moment is row = absurd cc
 order_kept (Blocked key spki) before caller moment is row = absurd cc
 
-pub own_keeps_rules : (caller : List ℕ) (number : ℕ) (history : List Entry) (order : Entry) → EachFollows [] history → own_order caller number history ≡ Some order
-    → (is_order order.what ≡ true) × BreaksNone order.what
-own_keeps_rules caller number history order each own =
+-- the caller's own order, as it stands in the history
+pub record OwnAt (caller : List ℕ) (number : ℕ) (history : List Entry) (order : Entry) : Type 0 where
+  pub at : FoundAt (is_own_order caller number) [] history order
+  pub own : is_same order.caller caller ≡ true
+  pub number_is : order.number ≡ number
+  pub is : is_order order.what ≡ true
+
+pub own_at : (caller : List ℕ) (number : ℕ) (history : List Entry) (order : Entry) → EachFollows [] history → own_order caller number history ≡ Some order
+    → OwnAt caller number history order
+own_at caller number history order each own =
     let found = find_follows (is_own_order caller number) [] history order each own in
-    let is = first_holds (eqb order.number number) (is_same order.caller caller) (is_order order.what) found.holds in
-    (is, order_kept order.what found.front order.caller order.moment is found.follows.row)
+    let rest = and_right (is_same order.caller caller) (eqb order.number number && is_order order.what) found.holds in
+    record {
+      at = found;
+      own = and_left (is_same order.caller caller) (eqb order.number number && is_order order.what) found.holds;
+      number_is = eqb-true order.number number (and_left (eqb order.number number) (is_order order.what) rest);
+      is = and_right (eqb order.number number) (is_order order.what) rest;
+    }
+
+pub own_keeps_rules : (caller : List ℕ) (number : ℕ) (history : List Entry) (order : Entry) → EachFollows [] history → own_order caller number history ≡ Some order
+    → IsGoodOrder order.what
+own_keeps_rules caller number history order each own =
+    let found = own_at caller number history order each own in
+    order_kept order.what found.at.front order.caller order.moment found.is found.at.follows.row
 
 pub own_is_order : (caller : List ℕ) (number : ℕ) (history : List Entry) (order : Entry) → EachFollows [] history → own_order caller number history ≡ Some order
     → (is_order order.what ≡ true) × IsWhat order.what
 own_is_order caller number history order each own =
-    let found = find_follows (is_own_order caller number) [] history order each own in
-    (first_holds (eqb order.number number) (is_same order.caller caller) (is_order order.what) found.holds, found.follows.spelled.what)
+    let found = own_at caller number history order each own in
+    (found.is, found.at.follows.spelled.what)
 
 pub targets_fit : (what : What) → IsWhat what → is_order what ≡ true → (length (targets_of what) ≤ 255) × AllByRecursion IsShort (targets_of what)
 targets_fit (Order key common days targets request) is order = (omega (arith, is.are_targets.count), all_short targets is.are_targets.each)
@@ -162,7 +184,7 @@ find_has p (first ∷ items) (suc i) x at holds = either p first (p first) refl 
 pub found_before : {A : Type 0} (p : A → Bool) (front rest : List A) (y : A) → find p front ≡ Some y → find p (front ++ rest) ≡ Some y
 found_before p front rest y is = find-append p front rest ∙ ap (λ (o : Option _). option_or o (find p rest)) is
 
-signed_row : (number : ℕ) (before : List Entry) (caller : List ℕ) (moment : Moment) (what : What) → is_signed_for number what ≡ true
+pub signed_row : (number : ℕ) (before : List Entry) (caller : List ℕ) (moment : Moment) (what : What) → is_signed_for number what ≡ true
     → MeetsRow before caller moment what → ComesSigned before caller moment number (signature_in what)
 signed_row number before caller moment (Signed order signature) signs row =
     subst (λ (n : ℕ). ComesSigned before caller moment n signature) (eqb-true order number signs) row

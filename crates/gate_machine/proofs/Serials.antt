@@ -15,12 +15,12 @@ use Rattle.gate_machine.proofs.Sends.{some_is, none_some, find_follows, follows_
 
 -- ---- an entry at a place stands between those before it and those behind it
 
-record SplitAt (history : List Entry) (entry : Entry) : Type 0 where
-  front : List Entry
-  rest : List Entry
-  split : history ≡ front ++ entry ∷ rest
+pub record SplitAt (history : List Entry) (entry : Entry) : Type 0 where
+  pub front : List Entry
+  pub rest : List Entry
+  pub split : history ≡ front ++ entry ∷ rest
 
-split_at : (history : List Entry) (place : ℕ) (entry : Entry) → slice_get history place ≡ Some entry → SplitAt history entry
+pub split_at : (history : List Entry) (place : ℕ) (entry : Entry) → slice_get history place ≡ Some entry → SplitAt history entry
 split_at [] place entry is = absurd (none_some is)
 split_at (first ∷ history) zero entry is = record { front = []; rest = history; split = ap (λ (e : Entry). e ∷ history) (some_is first entry is) }
 split_at (first ∷ history) (suc place) entry is =

@@ -1,7 +1,14 @@
+pub mod Cases
 pub mod Keys
 pub mod Rules
+pub mod Rows
+pub mod Asked
 pub mod Sends
+pub mod Sight
+pub mod Draft
+pub mod Commands
 pub mod History
+pub mod Ends
 pub mod Answer
 pub mod Move
 pub mod Step

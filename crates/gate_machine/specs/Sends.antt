@@ -35,7 +35,7 @@ IsOrderKey what key = ⊥
 
 -- the caller's own order with this number
 abbrev pub is_own_order : List ℕ → ℕ → Entry → Bool
-is_own_order caller number entry = nat_eq entry.number number && is_same entry.caller caller && is_order entry.what
+is_own_order caller number entry = is_same entry.caller caller && (nat_eq entry.number number && is_order entry.what)
 
 abbrev pub own_order : List ℕ → ℕ → List Entry → Option Entry
 own_order caller number history = find (is_own_order caller number) history
@@ -141,16 +141,6 @@ pub record IsSentBody (before : List Entry) (number : ℕ) (body : List ℕ) : T
 abbrev pub IsBodyOf : List Entry → ℕ → Entry → List ℕ → Type 0
 IsBodyOf before number order body =
     IsSentBody before number body ⊎ ((sent_for number before ≡ None) × IsNewBody before (targets_of order.what) body)
-
--- a body may be sent for the caller's own order: the order isn't signed, and its key isn't blocked
-pub record ComesToSigner (before : List Entry) (caller : List ℕ) (number : ℕ) (body : List ℕ) : Type 0 where
-  pub order : Entry
-  pub own : own_order caller number before ≡ Some order
-  pub unsigned : signed_for number before ≡ None
-  pub key : List ℕ
-  pub is_key : IsOrderKey order.what key
-  pub unblocked : block_of key before ≡ None
-  pub body_is : IsBodyOf before number order body
 
 -- ---- signatures and certificates
 

@@ -1,5 +1,5 @@
 //! What holds of all histories, moves and steps, for the proofs above.
-ghost use Rattle.std.specs.Prelude.{◌≡◌, ◌≢◌, ℕ, ◌+◌, ◌≤◌, List, [], ◌∷◌, ◌++◌, None, true};
+ghost use Rattle.std.specs.Prelude.{◌≡◌, ◌≢◌, ℕ, ◌+◌, List, [], ◌∷◌, ◌++◌, None, true};
 ghost use Rattle.plant.specs.Causes.{Rose};
 ghost use Rattle.gate_entries.specs.declared.entry.Entry.{Entry as EntryValue};
 ghost use Rattle.gate_entries.specs.declared.caller.Caller.{Caller as CallerValue};
@@ -8,18 +8,21 @@ ghost use Rattle.gate_entries.specs.declared.reply.Reply.{Reply as ReplyValue};
 ghost use Rattle.gate_entries.specs.declared.reply.Reply.TheVariants as replies;
 ghost use Rattle.gate_entries.specs.Spelling.{IsEntry};
 ghost use Rattle.gate_machine.specs.Move.{Held as HeldValue, Given as GivenValue, IsSound, Extends, HasFaults, Goes, Moves};
-ghost use Rattle.gate_machine.specs.Step.{State as StateValue, Item as ItemValue, Handles, Steps, Counted, IsRecorded};
-ghost use Rattle.gate_machine.specs.Sends.{is_send_for, order_in, body_in, signed_entry, IsGoodBody, HasOneBodyEach};
+ghost use Rattle.gate_machine.specs.Step.{State as StateValue, Item as ItemValue, Handles, Steps, Counted, IsRecorded, bodies_of};
+ghost use Rattle.gate_machine.specs.Sends.{is_send_for, order_in, body_in, signed_entry, Within, IsGoodBody, HasOneBodyEach};
 ghost use Rattle.gate_machine.specs.Serials.{HasOneOrderEach};
-ghost use Rattle.gate_machine.specs.History.{IsSignature, record_size, journal_size, Follows, EachFollows, Legal};
+ghost use Rattle.gate_machine.specs.History.{IsSignature, entry_total, journal_place, Follows, EachFollows, Legal};
+
+use journal_core::one_group_more;
 
 /// A history with one entry more.
 pub fn one_entry_more()
     ensures each { (history : List EntryValue) (entry : EntryValue) → EachFollows [] history → Follows history entry → EachFollows [] (history ++ entry ∷ []) }
     ensures legal { (history : List EntryValue) (entry : EntryValue) → Legal history → Follows history entry → Legal (history ++ entry ∷ []) }
-    ensures size { (history : List EntryValue) (entry : EntryValue) → journal_size (history ++ entry ∷ []) ≡ journal_size history + record_size entry }
-    ensures none { journal_size [] ≡ 16 }
-{}
+    ensures place { (history : List EntryValue) (entry : EntryValue) → journal_place (history ++ entry ∷ []) ≡ journal_place history + entry_total entry }
+{
+    one_group_more();
+}
 
 /// A move extends the history and keeps it legal; each fault that it tells was given, and nothing becomes loose without a fault of
 /// the disk. Another journal is told only where an entry was loose.
@@ -48,6 +51,20 @@ pub fn what_steps_keep()
     ensures counted { (old : StateValue) (items : List ItemValue) (new : StateValue) → Steps old items new → Counted old items new }
     ensures settled { (old : StateValue) (items : List ItemValue) (new : StateValue) → Steps old items new → old.held.loose ≡ None
         → (Rose old.disk_faults new.disk_faults → ⊥) → new.held.loose ≡ None }
+{}
+
+/// What has entries of its own in a history has them in a longer one, and there is one more for a body that is sent.
+#[tactic(auto, using(crate::proofs::Recorded::within_entries, crate::proofs::Recorded::within_sent))]
+pub fn what_is_sent_is_recorded()
+    ensures more { (sent : List (List ℕ)) (history more : List EntryValue) → Within sent (bodies_of history) → Within sent (bodies_of (history ++ more)) }
+    ensures sends { (sent : List (List ℕ)) (history : List EntryValue) (entry : EntryValue) → is_send_for (order_in entry.what) entry.what ≡ true
+        → Within sent (bodies_of history) → Within (sent ++ body_in entry.what ∷ []) (bodies_of (history ++ entry ∷ [])) }
+{}
+
+/// Every front of a legal history but the empty one is legal.
+#[tactic(auto, using(crate::proofs::Histories::legal_front))]
+pub fn fronts_are_legal()
+    ensures { (front rest : List EntryValue) → Legal (front ++ rest) → front ≢ [] → Legal front }
 {}
 
 /// Two bodies with the same serial number were sent for the same order.

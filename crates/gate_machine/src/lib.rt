@@ -3,23 +3,31 @@
 #![tactic(auto)]
 
 mod answer;
-mod finalizing;
+mod commands;
+mod draft;
+mod ending;
 mod following;
 mod law;
 mod names;
+mod place;
 mod request;
 mod rules;
 mod sending;
+mod sight;
 
 pub use answer::{Answer, answer_command, written_reply};
-pub use following::{find_kept, follows, last_moment};
+pub use commands::block::broken_by_block;
+pub use commands::order::broken_by_order;
+pub use following::follows;
 pub use law::{
     a_body_has_a_serial_number, a_serial_number_has_one_order, a_signature_follows,
-    an_order_has_one_body, one_entry_more, what_a_move_keeps, what_steps_keep,
+    an_order_has_one_body, fronts_are_legal, one_entry_more, what_a_move_keeps,
+    what_is_sent_is_recorded, what_steps_keep,
 };
+pub use place::last_moment;
 pub use request::key_of;
-pub use rules::broken_rule;
 pub use sending::{
     block_of, body_in, masked, own_order, send_with, sent_for, serial_in, signature_in, signed_for,
     to_sixteen,
 };
+pub use sight::find_kept;

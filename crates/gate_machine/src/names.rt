@@ -1,7 +1,8 @@
 //! The rules on the names and the days of an order.
-ghost use Rattle.std.specs.Prelude.{◌≡◌, ◌≢◌, ◌<◌, ◌↔◌, length, false, IsTrue, IfOk};
+ghost use Rattle.std.specs.Prelude.{◌≡◌, ◌≢◌, ◌<◌, ◌↔◌, false, IsTrue, IfOk};
 ghost use Rattle.std.specs.List.{AllByRecursion};
-ghost use Rattle.gate_machine.specs.Rules.{AreDistinct, HasBadCount, HasBadDays, IsNoCommonName, HasBadCommonName, NamesBreak, TellsLeast, IsAmong, IsSameSet};
+ghost use Rattle.gate_machine.specs.Commands.Order.{AreDistinct, IsNoCommonName, HasBadCommonName, NamesBreak, IsAmong, IsSameSet};
+ghost use Rattle.gate_machine.specs.Rules.{TellsLeast};
 
 use gate_base::{NoMemory, Plain, Target};
 use names_core::target_text;

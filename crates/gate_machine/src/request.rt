@@ -1,8 +1,8 @@
 //! The rules on the request of an order, and the key in it.
-ghost use Rattle.std.specs.Prelude.{◌≡◌, ◌↔◌, ℕ, List, None, true, IsTrue, IfOk, IfNone};
-ghost use Rattle.gate_machine.specs.Rules as spec;
-ghost use Rattle.gate_machine.specs.Rules.{IsOther, HasFault, RequestBreaks, TellsLeast, BreaksNone};
-ghost use Rattle.gate_machine.specs.Sends as sends;
+ghost use Rattle.std.specs.Prelude.{◌≡◌, ◌↔◌, ℕ, List, None, IsTrue, IfOk, IfNone};
+ghost use Rattle.gate_machine.specs.Commands.Order as spec;
+ghost use Rattle.gate_machine.specs.Commands.Order.{IsOther, HasFault, RequestBreaks, IsGoodOrder};
+ghost use Rattle.gate_machine.specs.Rules.{TellsLeast};
 ghost use Rattle.gate_machine.specs.Sends.{IsOrderKey, IsKeyIn};
 
 use crate::names::is_same_set;
@@ -85,8 +85,7 @@ fn rule_of(fault: CsrFault) -> Result<Option<u8>, NoMemory>
 
 /// The bytes of an order's key, as they stand in its request.
 pub fn key_of(alloc: Global, what: &What) -> Result<&[u8], NoMemory>
-    requires order { sends.is_order what.now ≡ true }
-    requires kept { BreaksNone what.now }
+    requires kept { IsGoodOrder what.now }
     ensures key { IfOk result (λ key. IsOrderKey what.now key.now) }
     ensures only { IfOk result (λ key. (other : List ℕ) → IsOrderKey what.now other → other ≡ key.now) }
 {

@@ -19,10 +19,10 @@ pub fn own_order<'a>(history: &'a [Entry], caller: &Bytes, number: u64) -> Optio
 fn is_own_order(entry: &Entry, caller: &Bytes, number: u64) -> bool
     ensures { result ≡ sends.is_own_order caller.now number entry.now }
 {
-    entry.number == number && entry.caller == *caller && is_order(&entry.what)
+    entry.caller == *caller && (entry.number == number && is_order(&entry.what))
 }
 
-fn is_order(what: &What) -> bool
+pub fn is_order(what: &What) -> bool
     ensures { result ≡ sends.is_order what.now }
 {
     matches!(what, What::Order { .. })
@@ -65,7 +65,7 @@ pub fn signed_for(history: &[Entry], number: u64) -> Option<&Entry>
         .find(|entry| is_signed_for(&entry.what, number))
 }
 
-fn is_signed_for(what: &What, number: u64) -> bool
+pub fn is_signed_for(what: &What, number: u64) -> bool
     ensures { result ≡ sends.is_signed_for number what.now }
 {
     match what {

@@ -1,6 +1,6 @@
 use Rattle.std.proofs.Common.{length}
 use Rattle.std.specs.List.{AllByRecursion}
-use Rattle.gate_machine.specs.Rules.{IsAmong}
+use Rattle.gate_machine.specs.Commands.Order.{IsAmong}
 use Rattle.gate_machine.proofs.names.are_among.Given as goal
 
 abbrev pub invariant-loop-rest : goal.invariant-loop-rest

@@ -1,5 +1,5 @@
 use Rattle.std.proofs.Common.{length}
-use Rattle.gate_machine.specs.Rules.{AreDistinct}
+use Rattle.gate_machine.specs.Commands.Order.{AreDistinct}
 use Rattle.gate_machine.proofs.names.are_distinct.Given as goal
 
 abbrev pub invariant-loop-rest : goal.invariant-loop-rest

@@ -1,0 +1,4 @@
+-- The commands, each with the rules on its fields, its answer, its row in a legal history and its reply.
+pub mod Order
+pub mod Block
+pub mod Finalize
