@@ -2,9 +2,9 @@
 use Rattle.std.proofs.Common.{◌≡◌, ◌≢◌, ℕ, inl, inr, List, [], ◌∷◌, ◌++◌, refl, sym, ap, subst, ◌∙◌, append_assoc, append-nil, arith}
 use Rattle.gate_entries.specs.declared.entry.Entry.{Entry}
 use Rattle.gate_entries.specs.Spelling.{entry_bytes, IsEntry}
-use Rattle.gate_machine.specs.History.{Follows, EachFollows, Legal}
-use Rattle.plain_journal.specs.Journal.{IsJournal, BreaksAt}
-use Rattle.gate_engine.specs.Engine.{payloads_of, IsOfNoHistory, IsBadAt}
+use Rattle.gate_machine.specs.History.{payloads_of, Follows, EachFollows, Legal}
+use Rattle.journal_core.specs.Journal.{IsJournal, BreaksAt}
+use Rattle.gate_engine.specs.Engine.{IsOfNoHistory, IsBadAt}
 
 module _ (one_spelling : (left right : Entry) → IsEntry left → IsEntry right → entry_bytes left ≡ entry_bytes right → left ≡ right) where
   pub same_history : (before left right : List Entry) → EachFollows before left → EachFollows before right → payloads_of left ≡ payloads_of right → left ≡ right

@@ -4,3 +4,6 @@ pub mod Stands
 pub mod Steps
 pub mod Histories
 pub mod Signings
+pub mod Kept
+pub mod Recovery
+pub mod Begun

@@ -1,5 +1,5 @@
--- A history's journal is as long as its payloads' journal.
-use Rattle.std.proofs.Common.{◌≡◌, ℕ, ◌+◌, ◌≤◌, List, [], ◌∷◌, ◌++◌, length, map, refl, ap, sym, ◌∙◌, arith, length-append}
+-- How long what is signed is.
+use Rattle.std.proofs.Common.{◌≡◌, ℕ, ◌+◌, ◌≤◌, List, [], ◌∷◌, ◌++◌, length, arith, length-append}
 use Rattle.std.specs.Int.{w16, w64, to_be_bytes}
 use Rattle.gate_base.specs.declared.moment.Moment.{Moment}
 use Rattle.gate_base.specs.declared.profile.SigAlg.TheVariants.{EcdsaSha256}
@@ -8,21 +8,8 @@ use Rattle.tbs_build.specs.Certificate.{algorithm_bytes, bit_string}
 use Rattle.gate_entries.specs.declared.entry.What.TheVariants as whats
 use Rattle.gate_entries.specs.Command.{entry_with}
 use Rattle.gate_machine.specs.Sends.{certificate_bytes}
-use Rattle.std.specs.Prelude.{sum_by}
-use Rattle.std.proofs.lemmas.List.Sums.{sum_by-cons}
-use Rattle.gate_entries.specs.declared.entry.Entry.{Entry}
 use Rattle.gate_entries.specs.Field.{counted}
 use Rattle.gate_entries.specs.Spelling.{entry_bytes}
-use Rattle.gate_machine.specs.History.{journal_size}
-use Rattle.gate_engine.specs.Engine.{payloads_of}
-
-sum_by-map : {A B : Type 0} (f : B → ℕ) (g : A → B) (items : List A) → sum_by f (map g items) ≡ sum_by (λ item. f (g item)) items
-sum_by-map f g [] = refl
-sum_by-map f g (item ∷ items) =
-    sum_by-cons f (g item) (map g items) ∙ ap (λ (n : ℕ). f (g item) + n) (sum_by-map f g items) ∙ sym (sum_by-cons (λ item. f (g item)) item items)
-
-pub size_of_payloads : (history : List Entry) → 16 + sum_by (λ payload. 4 + length payload) (payloads_of history) ≡ journal_size history
-size_of_payloads history = ap (λ (n : ℕ). 16 + n) (sum_by-map (λ payload. 4 + length payload) entry_bytes history)
 
 -- how long the entry of a signature is
 pub signed_size : (number : ℕ) (moment : Moment) (caller : List ℕ) (order : ℕ) (signature : List ℕ)

@@ -1,16 +1,15 @@
 -- What a start tells of the bytes.
-use Rattle.std.proofs.Common.{◌≡◌, ◌≢◌, ◌≤◌, ℕ, List, [], ◌∷◌, ◌++◌, length, get_or, take, drop, Err, ap, sym, arith, inl, inr, refl, subst}
-use Rattle.std.specs.Prelude.{IsErrOf}
-use Rattle.plain_journal.specs.declared.fault.MountFault.{MountFault}
-use Rattle.plain_journal.specs.declared.fault.MountFault.TheVariants as mounts
-use Rattle.plain_journal.specs.Journal.{head}
-use Rattle.plain_journal.specs.Mounting.{Refuses}
+use Rattle.std.proofs.Common.{Result, Ok, ◌≡◌, ◌≢◌, ◌≤◌, ℕ, List, [], ◌∷◌, ◌++◌, length, get_or, drop, Err, ap, sym, arith, inl, inr, refl, subst}
+use Rattle.std.specs.Prelude.{IsErrOf, IfErr}
+use Rattle.journal_core.specs.declared.fault.MountFault.{MountFault}
+use Rattle.journal_core.specs.declared.fault.MountFault.TheVariants as mounts
+use Rattle.journal_core.specs.Mounting.{Refuses}
 use Rattle.gate_engine.specs.declared.fault.StartFault.{StartFault}
 use Rattle.gate_engine.specs.declared.fault.StartFault.TheVariants as starts
 use Rattle.gate_entries.specs.declared.entry.Entry.{Entry}
 use Rattle.gate_entries.specs.Spelling.{entry_bytes}
-use Rattle.gate_machine.specs.History.{journal_size, Follows, EachFollows}
-use Rattle.gate_engine.specs.Engine.{payloads_of, StraysAt, IsStartFault, RefusesStart, IsBadAt}
+use Rattle.gate_machine.specs.History.{payloads_of, journal_place, Follows, EachFollows}
+use Rattle.gate_engine.specs.Engine.{StraysAt, IsStartFault, RefusesStart, IsBadAt}
 
 pub refuses : (fault : MountFault) (answer : StartFault) (bytes : List ℕ) → IsStartFault fault answer → Refuses fault bytes → RefusesStart answer bytes
 refuses mounts.NotBegun answer bytes is refused = rw is refused
@@ -19,15 +18,12 @@ refuses (mounts.TooLong count) answer bytes is refused = rw is (inl (record { be
 refuses mounts.Disk answer bytes is refused = rw is tt
 refuses mounts.NoMemory answer bytes is refused = rw is refused
 
-pub not_begun : (fault : StartFault) (bytes : List ℕ) → fault ≡ starts.NotBegun → RefusesStart fault bytes → take 16 bytes ≢ head
-not_begun fault bytes is refused = subst (λ (f : StartFault). RefusesStart f bytes) is refused
-
 pub bad : (fault : StartFault) (at : ℕ) (bytes : List ℕ) → fault ≡ starts.JournalBad at → RefusesStart fault bytes → IsBadAt bytes at
 bad fault at bytes is refused = subst (λ (f : StartFault). RefusesStart f bytes) is refused
 
 -- a payload that is no entry which may come behind those before it
 pub strays : (payloads : List (List ℕ)) (history : List Entry) (payload : List ℕ) (rest : List (List ℕ)) (at : ℕ) → payloads ≡ payloads_of history ++ payload ∷ rest
-    → EachFollows [] history → at ≡ journal_size history → ((entry : Entry) → Follows history entry → payload ≢ entry_bytes entry) → StraysAt payloads at
+    → EachFollows [] history → at ≡ journal_place history → ((entry : Entry) → Follows history entry → payload ≢ entry_bytes entry) → StraysAt payloads at
 strays payloads history payload rest at split each place stray = record {
   before = history;
   payload = payload;
@@ -48,3 +44,8 @@ as_fault x y is = ap Err is
 pub first_of : (items : List (List ℕ)) (x other : List ℕ) → x ≡ get_or items 0 other → 1 ≤ length items → items ≡ x ∷ drop 1 items
 first_of [] x other is some = absurd (omega (arith, some))
 first_of (first ∷ items) x other is some = ap (λ (f : List ℕ). f ∷ items) (sym is)
+
+-- what is said of a fault says more
+pub if_err_weaker : {A E : Type 0} (result : Result A E) (P Q : E → Type 0) → ((fault : E) → P fault → Q fault) → IfErr result P → IfErr result Q
+if_err_weaker (Ok x) P Q more is = tt
+if_err_weaker (Err fault) P Q more is = more fault is

@@ -1,18 +1,21 @@
 -- What an engine keeps, and when it stands for a plant.
-use Rattle.std.specs.Prelude.{◌≡◌, ◌≢◌, ℕ, ◌<◌, ◌≤◌, ◌⊎◌, List, [], ◌∷◌, ◌++◌, length, take, map, Option, None, is_some, option_to_list, IfSome}
+use Rattle.std.specs.Prelude.{◌≡◌, ◌≢◌, ℕ, ◌<◌, ◌≤◌, ◌⊎◌, List, [], ◌∷◌, ◌++◌, length, Option, None, is_some, option_to_list, IfSome}
 use Rattle.gate_base.specs.declared.moment.Moment.{Moment}
 use Rattle.plant.specs.Plant.{PlantTold}
 use Rattle.plant.specs.Clock.{ClockTold}
 use Rattle.plant.specs.Entropy.{EntropyTold}
-use Rattle.plain_journal.specs.declared.fault.MountFault.{MountFault}
-use Rattle.plain_journal.specs.declared.fault.MountFault.TheVariants as mounts
+use Rattle.journal_core.specs.declared.fault.MountFault.{MountFault}
+use Rattle.journal_core.specs.declared.fault.MountFault.TheVariants as mounts
 use Rattle.gate_engine.specs.declared.fault.StartFault.{StartFault}
 use Rattle.gate_engine.specs.declared.fault.StartFault.TheVariants as starts
-use Rattle.plain_journal.specs.Journal.{head, IsJournal, BreaksAt, StandsFor, JournalState}
+use Rattle.journal_core.specs.Journal.{most_bytes, no_chain, chain_after, IsJournal, BreaksAt, JournalState}
+use Rattle.journal_core.specs.Mounting.{IsBegun, Refuses}
+use Rattle.plant.specs.Stops.{Stops}
 use Rattle.gate_entries.specs.declared.entry.Entry.{Entry}
 use Rattle.gate_entries.specs.Spelling.{entry_bytes}
 use Rattle.gate_entries.specs.Command.{settings_entry}
-use Rattle.gate_machine.specs.History.{journal_size, Follows, EachFollows, Legal}
+use Rattle.gate_machine.specs.History.{payloads_of, journal_place, Follows, EachFollows, Legal}
+use Rattle.gate_engine.specs.Kept.{IsSentOf, Keeps}
 use Rattle.gate_base.specs.declared.sixteen.Sixteen.{Sixteen}
 use Rattle.plant.specs.Causes.{Rose}
 use Rattle.gate_entries.specs.declared.caller.Caller.{Caller}
@@ -23,27 +26,20 @@ use Rattle.gate_machine.specs.Step.{GivesCall, GivesDraw, Gives, Outside, State}
 use Rattle.gate_entries.specs.declared.reply.Reply.{Reply}
 use Rattle.gate_entries.specs.declared.reply.Reply.TheVariants as replies
 
--- what the records of a history's journal hold
-abbrev pub payloads_of : List Entry → List (List ℕ)
-payloads_of history = map entry_bytes history
-
 -- the history that a journal begins with: settings without bytes, at this moment
 abbrev pub first_history : Moment → List Entry
 first_history moment = settings_entry 1 moment [] ∷ []
 
--- the history is legal, the journal ends where the history's does, and is broken just where an entry is loose
+-- the history is legal, the journal has the place and the chain of the history's, and is broken just where an entry is loose
 pub record Sound (journal : JournalState) (history : List Entry) (loose : Option Entry) : Type 0 where
   pub legal : Legal history
-  pub size : journal.end ≡ journal_size history
+  pub place : journal.at ≡ journal_place history
+  pub linked : journal.chain ≡ chain_after no_chain (payloads_of history)
   pub broken : journal.broken ≡ is_some loose
   pub waits : IfSome loose (λ entry. Follows history entry)
 
 abbrev pub held_as : List Entry → Option Entry → Held
 held_as history loose = record { history = history; loose = loose }
-
--- where nothing is loose, the disk reads as the journal of the history
-abbrev pub StandsForPlant : Held → PlantTold → Type 0
-StandsForPlant held told = held.loose ≡ None → StandsFor (payloads_of held.history) told.disk.bytes
 
 abbrev pub outside_of : PlantTold → ClockTold → EntropyTold → Outside
 outside_of told clock entropy = record { clock = clock; entropy = entropy; signer = told.signer }
@@ -53,10 +49,9 @@ state_of held told clock entropy = record { held = held; disk_faults = told.disk
 
 -- ---- what a call keeps of plant and history
 
--- the disk stands for the history; its count of faults doesn't fall, and rose where the reply is a fault of the disk
-pub record Leaves (told told' : PlantTold) (reply : Reply) (new : Held) : Type 0 where
-  pub stands : StandsForPlant new told'
-  pub later : told.disk.faults ≤ told'.disk.faults
+-- it is kept from what the signer was sent at the start; and the disk's count of faults rose where the reply is a fault of the disk
+pub record Leaves (history : List Entry) (told told' : PlantTold) (stops stops' : Stops) (reply : Reply) (new : Held) : Type 0 where
+  pub keeps : Keeps (IsSentOf history stops) history told told' stops stops' new
   pub cause : reply ≡ replies.DiskFault → Rose told.disk.faults told'.disk.faults
 
 -- there was no memory before anything was written or sent
@@ -66,36 +61,42 @@ pub record WantsRoom (history : List Entry) (call : Option SignerCall) (reply : 
   pub held : Holds new history
 
 -- an answer is carried out, by what the signer gave
-pub record CarriesOut (answer : Answer) (history : List Entry) (told told' : PlantTold) (reply : Reply) (new : Held) : Type 0 where
+pub record CarriesOut (answer : Answer) (history : List Entry) (told told' : PlantTold) (stops stops' : Stops) (reply : Reply) (new : Held) : Type 0 where
   pub call : Option SignerCall
   pub gives : GivesCall told.signer told'.signer call
   pub does : WantsRoom history call reply new ⊎ Does answer history call reply new
-  pub leaves : Leaves told told' reply new
+  pub leaves : Leaves history told told' stops stops' reply new
 
 -- a command is answered over a reading, by what the random draws and the signer gave
-pub record ActsBy (history : List Entry) (caller : Caller) (command : Command) (reading : ℕ) (told told' : PlantTold) (entropy entropy' : EntropyTold) (reply : Reply) (new : Held) : Type 0 where
+pub record ActsBy (history : List Entry) (caller : Caller) (command : Command) (reading : ℕ) (told told' : PlantTold) (stops stops' : Stops) (entropy entropy' : EntropyTold) (reply : Reply) (new : Held) : Type 0 where
   pub draw : Option (Option Sixteen)
   pub call : Option SignerCall
   pub draws : GivesDraw entropy entropy' draw
   pub gives : GivesCall told.signer told'.signer call
   pub acts : Acts history caller command reading draw call reply new
-  pub leaves : Leaves told told' reply new
+  pub leaves : Leaves history told told' stops stops' reply new
 
 -- an allowed command is answered, by what the outside gave
-pub record AsksBy (history : List Entry) (caller : Caller) (command : Command) (told told' : PlantTold) (old now : Outside) (reply : Reply) (new : Held) : Type 0 where
+pub record AsksBy (history : List Entry) (caller : Caller) (command : Command) (told told' : PlantTold) (stops stops' : Stops) (old now : Outside) (reply : Reply) (new : Held) : Type 0 where
   pub given : Given
   pub gives : Gives old given now
   pub asks : Asks history caller command given reply new
-  pub leaves : Leaves told told' reply new
+  pub leaves : Leaves history told told' stops stops' reply new
 
 -- a command is answered with nothing loose, by what the outside gave
-pub record GoesBy (history : List Entry) (caller : Caller) (command : Command) (told told' : PlantTold) (old now : Outside) (reply : Reply) (new : Held) : Type 0 where
+pub record GoesBy (history : List Entry) (caller : Caller) (command : Command) (told told' : PlantTold) (stops stops' : Stops) (old now : Outside) (reply : Reply) (new : Held) : Type 0 where
   pub given : Given
   pub gives : Gives old given now
   pub goes : Goes history caller command given reply new
-  pub leaves : Leaves told told' reply new
+  pub leaves : Leaves history told told' stops stops' reply new
 
 -- ---- what a start tells
+
+-- it is the legal history that these payloads are, and nothing is loose
+pub record IsFound (payloads : List (List ℕ)) (held : Held) : Type 0 where
+  pub settled : held.loose ≡ None
+  pub legal : Legal held.history
+  pub payloads_are : payloads ≡ payloads_of held.history
 
 -- the payloads are a history up to this place, and the next one is no entry that may come behind it
 pub record StraysAt (payloads : List (List ℕ)) (at : ℕ) : Type 0 where
@@ -104,12 +105,12 @@ pub record StraysAt (payloads : List (List ℕ)) (at : ℕ) : Type 0 where
   pub rest : List (List ℕ)
   pub split : payloads ≡ payloads_of before ++ payload ∷ rest
   pub each : EachFollows [] before
-  pub place : at ≡ journal_size before
+  pub place : at ≡ journal_place before
   pub stray : (entry : Entry) → Follows before entry → payload ≢ entry_bytes entry
 
 -- there are no payloads, or one of them is the first that is no entry which may come behind those before it
 abbrev pub IsIllegalAt : List (List ℕ) → ℕ → Type 0
-IsIllegalAt payloads at = ((payloads ≡ []) × (at ≡ 16)) ⊎ StraysAt payloads at
+IsIllegalAt payloads at = ((payloads ≡ []) × (at ≡ journal_place [])) ⊎ StraysAt payloads at
 
 -- the bytes are the journal of payloads that are no legal history
 pub record IsOfNoHistory (bytes : List ℕ) (at : ℕ) : Type 0 where
@@ -117,15 +118,15 @@ pub record IsOfNoHistory (bytes : List ℕ) (at : ℕ) : Type 0 where
   pub journal : IsJournal payloads bytes
   pub illegal : IsIllegalAt payloads at
 
--- the bytes begin as a journal does and are longer than any
+-- the bytes begin as a journal does and are longer than any may be
 pub record IsTooLong (bytes : List ℕ) (at : ℕ) : Type 0 where
-  pub begun : take 16 bytes ≡ head
-  pub long : 67108864 < length bytes
-  pub place : at ≡ 67108864
+  pub begun : IsBegun bytes
+  pub long : most_bytes < length bytes
+  pub place : at ≡ most_bytes
 
--- the bytes break off inside a record
+-- the bytes break off inside a group
 pub record BreaksOff (bytes : List ℕ) (at : ℕ) : Type 0 where
-  pub fits : length bytes ≤ 67108864
+  pub fits : length bytes ≤ most_bytes
   pub breaks : BreaksAt bytes at
 
 -- the bytes begin as a journal does and are no legal one, from this place on
@@ -134,29 +135,26 @@ IsBadAt bytes at = IsTooLong bytes at ⊎ BreaksOff bytes at ⊎ IsOfNoHistory b
 
 -- what a refused start tells of the bytes. Memory is wanted only for bytes that begin as a journal does and aren't too long
 abbrev pub RefusesStart : StartFault → List ℕ → Type 0
-RefusesStart starts.NotBegun bytes = take 16 bytes ≢ head
+RefusesStart starts.NotBegun bytes = Refuses mounts.NotBegun bytes
 RefusesStart (starts.JournalBad at) bytes = IsBadAt bytes at
 RefusesStart starts.Disk bytes = Unit {0}
-RefusesStart starts.NoMemory bytes = (take 16 bytes ≡ head) × (length bytes ≤ 67108864)
+RefusesStart starts.NoMemory bytes = Refuses mounts.NoMemory bytes
 
 -- a history that is neither the gate's nor this followed by the loose entry
 abbrev pub IsOther : Held → List Entry → Type 0
 IsOther held history = (history ≢ held.history) × (history ≢ held.history ++ option_to_list held.loose)
 
--- the bytes are the journal of such a history
-pub record IsOfAnother (held : Held) (bytes : List ℕ) : Type 0 where
-  pub history : List Entry
-  pub journal : IsJournal (payloads_of history) bytes
-  pub other : IsOther held history
-
--- why a gate doesn't take up what the disk holds, and the place that is told
-abbrev pub IsForeign : Held → ℕ → List ℕ → Type 0
-IsForeign held at bytes = ((take 16 bytes ≢ head) × (at ≡ 0)) ⊎ IsBadAt bytes at ⊎ (IsOfAnother held bytes × (at ≡ 16))
+-- a fault of the disk or of the memory, which says nothing of the bytes
+abbrev pub IsOutside : StartFault → Type 0
+IsOutside starts.NotBegun = ⊥
+IsOutside (starts.JournalBad at) = ⊥
+IsOutside starts.Disk = Unit {0}
+IsOutside starts.NoMemory = Unit {0}
 
 -- what a fault of the mount is for a start
 abbrev pub IsStartFault : MountFault → StartFault → Type 0
 IsStartFault mounts.NotBegun fault = fault ≡ starts.NotBegun
 IsStartFault (mounts.BadHead at) fault = fault ≡ starts.JournalBad at
-IsStartFault (mounts.TooLong count) fault = fault ≡ starts.JournalBad 67108864
+IsStartFault (mounts.TooLong count) fault = fault ≡ starts.JournalBad most_bytes
 IsStartFault mounts.Disk fault = fault ≡ starts.Disk
 IsStartFault mounts.NoMemory fault = fault ≡ starts.NoMemory

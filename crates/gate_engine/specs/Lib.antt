@@ -1,2 +1,4 @@
 pub mod Engine
+pub mod Kept
 pub mod Signing
+pub mod Gate

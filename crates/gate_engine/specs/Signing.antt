@@ -6,7 +6,9 @@ use Rattle.gate_entries.specs.declared.reply.Reply.{Reply}
 use Rattle.gate_entries.specs.declared.reply.Reply.TheVariants as replies
 use Rattle.gate_entries.specs.Command.{entry_with}
 use Rattle.gate_entries.specs.Spelling.{IsEntry}
-use Rattle.gate_machine.specs.History.{IsSignature, journal_size, Follows}
+use Rattle.journal_core.specs.Journal.{HasRoom, group_total}
+use Rattle.gate_machine.specs.Answer.{most_signed}
+use Rattle.gate_machine.specs.History.{IsSignature, journal_place, Follows}
 use Rattle.gate_machine.specs.Sends.{order_in, body_in, serial_in, certificate_bytes}
 use Rattle.plant.specs.Plant.{PlantTold}
 use Rattle.gate_machine.specs.Move.{Held, Holds, Waits, SignerCall}
@@ -33,15 +35,15 @@ pub record HasRoomToSign (signing : Signing) : Type 0 where
   pub certificate : signing.certificate.items ≡ []
   pub certificate_room : length signing.body + 1100 ≤ vec_capacity signing.certificate
   pub payload : signing.payload.items ≡ []
-  pub payload_room : length signing.caller + 1053 ≤ vec_capacity signing.payload
+  pub payload_room : most_signed signing.caller ≤ vec_capacity signing.payload
   pub signature : signing.signature.items ≡ []
   pub signature_room : 1024 ≤ vec_capacity signing.signature
 
--- a signature may come behind the history, and its record fits
+-- a signature may come behind the history, and its entry fits
 pub record MayBeSigned (history : List Entry) (signing : Signing) : Type 0 where
   pub follows : (signature : List ℕ) → IsSignature signature → IsEntry (signed_as signing signature) → Follows history (signed_as signing signature)
   pub caller : length signing.caller ≤ 64
-  pub room : journal_size history + (1057 + length signing.caller) ≤ 67108864
+  pub room : HasRoom (journal_place history) (group_total (most_signed signing.caller))
 
 -- the signature's entry is durable and the certificate returned, or the disk failed
 abbrev pub KeepsAs : Signing → List Entry → List ℕ → Reply → Held → Type 0

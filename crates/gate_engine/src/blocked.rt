@@ -24,6 +24,14 @@ pub fn block(rt: &impl Abort, alloc: Global, key: usize, spki: &[u8]) -> Command
         3 => b"",
         _ => b"0123456789abcdef0123456789abcdef0123456789abcdef0123456789abcdef0",
     };
+    block_under(rt, alloc, key, spki)
+}
+
+pub fn block_under(rt: &impl Abort, alloc: Global, key: &[u8], spki: &[u8]) -> Command
+    requires key { length key.now < 2 ^ 8 }
+    requires spki { length spki.now < 2 ^ 16 }
+    ensures { IsCommand result }
+{
     Command::Block {
         key: bytes(rt, alloc, key),
         spki: bytes(rt, alloc, spki),
@@ -39,9 +47,15 @@ pub fn operator(rt: &impl Abort, alloc: Global) -> Caller
     }
 }
 
-/// The record of the key that operator `op` blocks under `k1`, as entry 2.
-const BLOCKED_RECORD: &[u8] =
-    b"\0\0\0\x1d\x08\0\0\0\0\0\0\0\x02\0\0\0\0\x6a\xb1\x3b\x80\0\x02op\x02k1\0\x03\xaa\xbb\xcc";
+/// The three bytes that the operator `op` blocks under `k1` in the example.
+pub const EXAMPLE_KEY: &[u8] = &[0xaa, 0xbb, 0xcc];
+
+/// The group of that entry, the second one: its length, the chain as Python's hashlib computes it, and the payload. With
+/// the gate behind it, it takes 66 bytes.
+pub const EXAMPLE_GROUP: &[u8] = b"\0\0\0\x1d\
+    \xe6\xc0\xc6\x99\xe9\x21\x90\x95\xcf\x55\xa8\x5f\x7d\x3a\x96\xed\
+    \x84\x4a\x23\x96\x53\xa7\xb4\xc0\xfc\x6e\xea\x08\xc1\x55\xe9\xd3\
+    \x08\0\0\0\0\0\0\0\x02\0\0\0\0\x6a\xb1\x3b\x80\0\x02op\x02k1\0\x03\xaa\xbb\xcc";
 
 /// The retry key and the blocked key of each command of the operator, and its reply.
 const BLOCKS: &[(usize, u8, Said)] = &[
@@ -75,13 +89,12 @@ fn keys_are_blocked_by_operators(rt: HostRuntime) {
         let spki: &[u8] = match size {
             0 => &[],
             2 => &[0xaa, 0xbb],
-            _ => &[0xaa, 0xbb, 0xcc],
+            _ => EXAMPLE_KEY,
         };
         let asked = block(&rt, alloc, *key, spki);
         let got = said(gate.ask(&operator(&rt, alloc), &asked));
         assert_eq!(rt; got, *want, "under key {key}");
     }
     assert_eq!(rt; gate.engine.count(), 3);
-    let record = gate.plant.disk().get(43..76);
-    assert!(rt; record == Some(BLOCKED_RECORD));
+    assert!(rt; gate.plant.disk().get(77..142) == Some(EXAMPLE_GROUP));
 }

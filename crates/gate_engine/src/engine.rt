@@ -1,7 +1,7 @@
 ghost use Rattle.std.specs.Prelude.{◌≡◌, length};
 
 use gate_entries::Entry;
-use plain_journal::Journal;
+use journal_core::Journal;
 use std::alloc::Global;
 use std::marker::Model;
 

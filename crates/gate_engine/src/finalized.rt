@@ -1,8 +1,8 @@
 //! Orders that are finalized, over a plant that loses a signature and a write.
 
 use crate::begin;
-use crate::blocked::{block, operator};
-use crate::requests::{key, request};
+use crate::blocked::{block, block_under, operator};
+use crate::requests::{few, key, request};
 use crate::tests::{
     BEGUN, BLOCKED, DISK_FAULT, ENTROPY_FAULT, ENTROPY_REPEAT, Gate, ISSUED, NO_SUCH_ORDER, PLACED,
     REFUSED, SIGNER_FAULT, Said, bytes, caller, command, content_of, gate_over, said,
@@ -14,8 +14,8 @@ use std::alloc::Global;
 use std::process::Abort;
 
 /// What is asked when orders are finalized.
-#[derive(Clone, Copy)]
-enum Turn {
+#[derive(Clone, Copy, Debug)]
+pub enum Turn {
     /// Caller `acme` orders under this key, with this content.
     Order(u8, u8),
     /// The account with this number has the order finalized.
@@ -24,13 +24,15 @@ enum Turn {
     Block(u8),
     /// The operator blocks all bytes of the request with that key.
     BlockRequest(u8),
+    /// The operator blocks so many zero bytes, under this number in four letters. The group takes 65 bytes more.
+    BlockLong(u16, usize),
 }
 
 /// The example's body: the serial number 40 and fifteen zeros, and `example.com`.
-const BODY: &[u8] =
+pub const BODY: &[u8] =
     b"\x30\x21\x02\x10\x40\0\0\0\0\0\0\0\0\0\0\0\0\0\0\0\x30\x0d\x82\x0bexample.com";
 
-/// Over a plant whose call 12, the first of the signer, loses its reply, and whose call 25, the write of a signature, fails.
+/// Over a plant whose call 20, the first of the signer, loses its reply, and whose call 43, the write of a signature's group, fails.
 const TURNS: &[(Turn, Said)] = &[
     (Turn::Order(0, 0), (PLACED, 2)),
     (Turn::Finalize(1, 2), (NO_SUCH_ORDER, 0)),
@@ -56,7 +58,7 @@ const TURNS: &[(Turn, Said)] = &[
 ];
 
 /// Random bytes: zeros, the same with the bit that is masked, and others that are drawn twice.
-fn draws(rt: &impl Abort, alloc: Global) -> ListEntropy {
+pub fn draws(rt: &impl Abort, alloc: Global) -> ListEntropy {
     let mut draws = Sequence::new(alloc);
     for first in [0, 0x80, 1] {
         let mut bytes = [0; 16];
@@ -70,7 +72,26 @@ fn draws(rt: &impl Abort, alloc: Global) -> ListEntropy {
     ListEntropy::new(draws)
 }
 
-fn take_turn(rt: &impl Abort, alloc: Global, gate: &mut Gate, turn: Turn) -> Reply {
+/// A number in four letters from a to p, of 16 values each.
+fn letters(number: u16) -> [u8; 4] {
+    let [high, low] = number.to_be_bytes();
+    [
+        b'a'.saturating_add(high / 16),
+        b'a'.saturating_add(high % 16),
+        b'a'.saturating_add(low / 16),
+        b'a'.saturating_add(low % 16),
+    ]
+}
+
+fn block_long(rt: &impl Abort, alloc: Global, gate: &mut Gate, number: u16, size: usize) -> Reply {
+    let mut zeros = Vec::new(alloc);
+    zeros.resize(size, 0).expect(rt, "memory");
+    let zeros = few(rt, zeros);
+    let asked = block_under(rt, alloc, &letters(number), zeros.as_slice());
+    gate.ask(&operator(rt, alloc), &asked)
+}
+
+pub fn take_turn(rt: &impl Abort, alloc: Global, gate: &mut Gate, turn: Turn) -> Reply {
     match turn {
         Turn::Order(key, content) => {
             let asked = command(rt, alloc, key, content_of(content));
@@ -89,6 +110,7 @@ fn take_turn(rt: &impl Abort, alloc: Global, gate: &mut Gate, turn: Turn) -> Rep
             let asked = block(rt, alloc, 1, request.as_slice());
             gate.ask(&operator(rt, alloc), &asked)
         }
+        Turn::BlockLong(number, size) => block_long(rt, alloc, gate, number, size),
     }
 }
 
@@ -96,8 +118,8 @@ fn take_turn(rt: &impl Abort, alloc: Global, gate: &mut Gate, turn: Turn) -> Rep
 fn orders_are_sent_signed_and_told(rt: HostRuntime) {
     let alloc = rt.alloc();
     let mut fails = Sequence::new(alloc);
-    fails.push((12, Fail::ReplyLost)).expect(&rt, "memory");
-    fails.push((25, Fail::Disk)).expect(&rt, "memory");
+    fails.push((20, Fail::ReplyLost)).expect(&rt, "memory");
+    fails.push((43, Fail::Disk)).expect(&rt, "memory");
     let secret = bytes(&rt, alloc, b"secret");
     let mut plant = MemoryPlant::new(alloc, Bytes::new(alloc), secret, fails);
     begin(alloc, &mut plant, Moment(BEGUN)).expect(&rt, "a journal");

@@ -1,12 +1,12 @@
 //! What holds of all journals, for those who read what a start or a remount tells.
 ghost use Rattle.std.specs.Prelude.{◌≡◌, ℕ, List};
-ghost use Rattle.plain_journal.specs.Journal.{IsJournal};
+ghost use Rattle.journal_core.specs.Journal.{IsJournal};
 ghost use Rattle.gate_entries.specs.declared.entry.Entry.{Entry as EntryValue};
-ghost use Rattle.gate_machine.specs.History.{Legal};
-ghost use Rattle.gate_engine.specs.Engine.{payloads_of, IsBadAt};
+ghost use Rattle.gate_machine.specs.History.{payloads_of, Legal};
+ghost use Rattle.gate_engine.specs.Engine.{IsBadAt};
 
 use gate_entries::one_spelling;
-use plain_journal::{one_break, one_reading};
+use journal_core::{one_break, one_reading};
 
 /// Bytes are the journal of one legal history at most, and then they are bad at no place.
 pub fn one_history()

@@ -18,10 +18,9 @@ pub struct Row {
     pub content: u8,
 }
 
-/// The orders that the disk holds behind so many entries, its size, and what the outside will do.
+/// The orders that the disk holds behind the settings, the journal's size, and what the outside will do.
 #[derive(Drop)]
 pub struct Rows<'a> {
-    pub before: u64,
     pub rows: Vec<Row>,
     pub size: u64,
     /// Whether a commit failed since the disk was last read.
@@ -56,7 +55,7 @@ impl Rows<'_> {
         reading
     }
 
-    /// Whether the disk was read again: it is synced, measured, and read in two pieces.
+    /// Whether the journal was mounted again: the disk is synced, measured, and read in two pieces.
     pub fn is_read_again(&mut self) -> bool {
         for _ in 0..4 {
             if self.next_call_fails() {
@@ -78,7 +77,7 @@ impl Rows<'_> {
 
     /// The number and the moment of the next order.
     pub fn next_row(&self, reading: u64) -> (u64, u64) {
-        let mut number = self.before.saturating_add(1);
+        let mut number: u64 = 2;
         let mut moment = BEGUN;
         for row in self.rows.as_slice() {
             number = number.saturating_add(1);
@@ -90,19 +89,21 @@ impl Rows<'_> {
         (number, moment)
     }
 
-    /// Writes an order and syncs it. A write that fails writes nothing; behind a sync that fails the order stands.
+    /// Commits an order in four calls. A write that fails writes nothing, so the order stands if the gate's write was done.
     pub fn place(&mut self, rt: &impl Abort, alloc: Global, row: Row) -> Said {
         let payload = payload(rt, alloc, row);
         let size = self
             .size
-            .saturating_add(4)
+            .saturating_add(37)
             .saturating_add(payload.len() as u64);
         if MOST_BYTES < size {
             return (FULL, 0);
         }
         self.loose = true;
-        if self.next_call_fails() {
-            return (DISK_FAULT, 0);
+        for _ in 0..3 {
+            if self.next_call_fails() {
+                return (DISK_FAULT, 0);
+            }
         }
         self.rows.push(row).expect(rt, "memory");
         self.size = size;
@@ -153,7 +154,7 @@ pub fn put_counted(rt: &impl Abort, out: &mut Vec<u8>, text: &[u8]) {
     put(rt, out, text);
 }
 
-/// What an order's record holds.
+/// The payload of an order's group.
 pub fn payload(rt: &impl Abort, alloc: Global, row: Row) -> Vec<u8> {
     let content = content_of(row.content);
     let mut out = Vec::new(alloc);
@@ -170,18 +171,5 @@ pub fn payload(rt: &impl Abort, alloc: Global, row: Row) -> Vec<u8> {
     let request = request(rt, alloc, content.request);
     put(rt, &mut out, b"\0\x76");
     put(rt, &mut out, request.as_slice());
-    out
-}
-
-/// The records of these orders.
-pub fn records(rt: &impl Abort, alloc: Global, rows: &[Row]) -> Vec<u8> {
-    let mut out = Vec::new(alloc);
-    for row in rows {
-        let payload = payload(rt, alloc, *row);
-        let size = u16::try_from(payload.len()).expect(rt, "a small payload");
-        put(rt, &mut out, &[0, 0]);
-        put(rt, &mut out, &size.to_be_bytes());
-        put(rt, &mut out, &payload);
-    }
     out
 }

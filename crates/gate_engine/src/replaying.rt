@@ -1,46 +1,42 @@
 //! How payloads become a history.
 ghost use Rattle.std.specs.Prelude.{◌≡◌, ◌≢◌, ◌≤◌, ◌+◌, ℕ, [], length, sum_by, IfOk, IsErrOf};
-ghost use Rattle.plain_journal.specs.Journal.{journal_of};
+ghost use Rattle.journal_core.specs.Journal.{gate_place, HasRoom};
 ghost use Rattle.gate_entries.specs.declared.entry.Entry.{Entry as EntryValue};
 ghost use Rattle.gate_entries.specs.Spelling.{entry_bytes};
-ghost use Rattle.gate_machine.specs.History.{Legal, EachFollows, Follows};
-ghost use Rattle.gate_engine.specs.Engine.{payloads_of, StraysAt, IsIllegalAt};
+ghost use Rattle.gate_machine.specs.History.{payloads_of, Legal, EachFollows, Follows};
+ghost use Rattle.gate_engine.specs.Engine.{StraysAt, IsIllegalAt};
 
 use crate::fault::ReplayFault;
 use gate_base::{Bytes, Payloads};
 use gate_entries::{Entry, EntryRead, read_entry};
 use gate_machine::{follows, one_entry_more};
-use plain_journal::one_record_more;
+use journal_core::{FIRST_GATE, group_total};
 use std::alloc::Global;
 
-/// Where the first record lies.
-const FIRST_RECORD: u64 = 16;
-
-/// The history that the payloads are; or the place of the first record that may not come behind those before it.
+/// The history that the payloads are; or the place of the first group that may not come behind those before it.
 pub fn replay(alloc: Global, payloads: &Payloads) -> Result<Vec<Entry>, ReplayFault>
-    requires { length (journal_of payloads.now) ≤ 67_108_864 }
+    requires { HasRoom (gate_place payloads.now) 0 }
     ensures payloads { IfOk result (λ history. payloads.now ≡ payloads_of history.items) }
     ensures legal { IfOk result (λ history. Legal history.items) }
     ensures illegal { (at : ℕ) → IsErrOf result (ReplayFault.Illegal at) → IsIllegalAt payloads.now at }
 {
-    one_record_more();
     let history = replay_each(alloc, payloads.as_slice())?;
     if history.is_empty() {
-        return Err(ReplayFault::Illegal { at: FIRST_RECORD });
+        return Err(ReplayFault::Illegal { at: FIRST_GATE });
     }
     Ok(history)
 }
 
 /// The entries that the payloads spell, each of which may come behind those before it.
 fn replay_each(alloc: Global, payloads: &[Bytes]) -> Result<Vec<Entry>, ReplayFault>
-    requires { 16 + sum_by (λ payload. 4 + length payload) payloads.now ≤ 67_108_864 }
+    requires { HasRoom (gate_place payloads.now) 0 }
     ensures payloads { IfOk result (λ history. payloads.now ≡ payloads_of history.items) }
     ensures each { IfOk result (λ history. EachFollows [] history.items) }
     ensures illegal { (at : ℕ) → IsErrOf result (ReplayFault.Illegal at) → StraysAt payloads.now at }
 {
     one_entry_more();
     let mut history = Vec::new(alloc);
-    let mut at = FIRST_RECORD;
+    let mut at = FIRST_GATE;
     let mut rest = payloads;
     while let [payload, after @ ..] = rest {
         let entry = match next_entry(alloc, &history, payload, at) {
@@ -48,7 +44,7 @@ fn replay_each(alloc: Global, payloads: &[Bytes]) -> Result<Vec<Entry>, ReplayFa
             Err(fault) => return Err(fault),
         };
         history.push(entry)?;
-        at = at.saturating_add(payload.len() as u64).saturating_add(4);
+        at = at.saturating_add(group_total(payload.len() as u64));
         rest = after;
     }
     Ok(history)

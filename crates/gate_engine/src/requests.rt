@@ -59,7 +59,7 @@ pub fn element(rt: &impl Abort, alloc: Global, tag: u8, parts: &[&[u8]]) -> Vec<
 }
 
 /// Bytes that an entry counts by two.
-fn few(rt: &impl Abort, out: Vec<u8>) -> Bytes
+pub fn few(rt: &impl Abort, out: Vec<u8>) -> Bytes
     ensures { length result < 2 ^ 16 }
 {
     assert!(rt; out.len() < 65_536);

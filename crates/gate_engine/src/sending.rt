@@ -2,10 +2,11 @@
 ghost use Rattle.std.specs.Prelude.{◌≡◌, ◌+◌, ◌≤◌, ◌<◌, ◌⊎◌, ℕ, List, None, [], ◌∷◌, ◌++◌, length, vec_len, vec_capacity, IfOk, OnErr, OnOk};
 ghost use Rattle.plant.specs.Causes.{Rose};
 ghost use Rattle.gate_entries.specs.Spelling.{entry_bytes, IsEntry};
-ghost use Rattle.gate_machine.specs.History.{journal_size, IsSignature, Follows};
+ghost use Rattle.gate_machine.specs.History.{IsSignature, Follows};
 ghost use Rattle.gate_machine.specs.Sends.{is_send_for, order_in, body_in, certificate_bytes, IsGoodBody};
 ghost use Rattle.gate_machine.specs.Answer.{IsReadyToSend};
-ghost use Rattle.gate_engine.specs.Engine.{StandsForPlant, Leaves, CarriesOut, Sound, held_as};
+ghost use Rattle.gate_engine.specs.Engine.{Leaves, CarriesOut, Sound, held_as};
+ghost use Rattle.gate_engine.specs.Kept.{Stands, IsSentOf, MayBeSent, Keeps};
 ghost use Rattle.gate_engine.specs.Signing.{signed_as, IsSigning, MayBeSigned, HasRoomToSign, SignsAs, KeepsAs};
 
 use crate::engine::Engine;
@@ -15,10 +16,10 @@ use gate_base::{Bytes, Moment, NoMemory, Plain, SigAlg, Sixteen};
 use gate_entries::{Entry, Reply, What, put_signed, write_entry};
 use gate_machine::{
     Answer, a_body_has_a_serial_number, a_signature_follows, body_in, one_entry_more, serial_in,
-    to_sixteen,
+    to_sixteen, what_is_sent_is_recorded,
 };
-use plain_journal::Journal;
-use plant::{Plant, SIGNATURE_ROOM, SignerFault};
+use journal_core::Journal;
+use plant::{Plant, SIGNATURE_ROOM, SignerFault, runs_join};
 use std::alloc::Global;
 use tbs_build::certificate;
 
@@ -108,7 +109,7 @@ fn keep_signature<P: Plant>(
 ) -> Reply
     requires sound { Sound journal.old history.old.items loose.old }
     requires settled { loose.old ≡ None }
-    requires stands { StandsForPlant (held_as history.old.items loose.old) (P.told plant.old) }
+    requires stands { Stands (held_as history.old.items loose.old) (P.stops plant.old) }
     requires may { MayBeSigned history.old.items signing }
     requires room { HasRoomToSign signing }
     requires size { IsSignature signature.now }
@@ -117,9 +118,9 @@ fn keep_signature<P: Plant>(
     ensures kept { KeepsAs signing history.old.items signature.now result (held_as history.new.items loose.new) }
     ensures follows { Follows history.old.items (signed_as signing signature.now) }
     ensures sound { Sound journal.new history.new.items loose.new }
-    ensures stands { StandsForPlant (held_as history.new.items loose.new) (P.told plant.new) }
+    ensures keeps { Keeps (IsSentOf history.old.items (P.stops plant.old)) history.old.items (P.told plant.old) (P.told plant.new) (P.stops plant.old) (P.stops plant.new)
+        (held_as history.new.items loose.new) }
     ensures disk { result ≡ Reply.DiskFault → Rose (P.told plant.old).disk.faults (P.told plant.new).disk.faults }
-    ensures later { (P.told plant.old).disk.faults ≤ (P.told plant.new).disk.faults }
     ensures signer { (P.told plant.new).signer ≡ (P.told plant.old).signer }
 {
     let Signing {
@@ -164,15 +165,19 @@ fn sign_body<P: Plant>(
 ) -> Reply
     requires sound { Sound journal.old history.old.items loose.old }
     requires settled { loose.old ≡ None }
-    requires stands { StandsForPlant (held_as history.old.items loose.old) (P.told plant.old) }
+    requires stands { Stands (held_as history.old.items loose.old) (P.stops plant.old) }
     requires may { MayBeSigned history.old.items signing }
     requires room { HasRoomToSign signing }
     requires spare { AROUND_A_CALLER + length signing.caller ≤ journal.old.spare }
     requires capacity { vec_len history.old < vec_capacity history.old }
     ensures signed { SignsAs signing history.old.items (P.told plant.old) (P.told plant.new) result (held_as history.new.items loose.new) }
     ensures sound { Sound journal.new history.new.items loose.new }
-    ensures leaves { Leaves (P.told plant.old) (P.told plant.new) result (held_as history.new.items loose.new) }
+    // The body's entry is in every image before the signer is called.
+    ensures keeps { Keeps (MayBeSent signing.body history.old.items (P.stops plant.old) × IsSentOf history.old.items (P.stops plant.old)) history.old.items
+        (P.told plant.old) (P.told plant.new) (P.stops plant.old) (P.stops plant.new) (held_as history.new.items loose.new) }
+    ensures disk { result ≡ Reply.DiskFault → Rose (P.told plant.old).disk.faults (P.told plant.new).disk.faults }
 {
+    runs_join::<P>();
     let mut room = [0; SIGNATURE_ROOM];
     match plant.sign(signing.body.as_slice(), &mut room) {
         Ok(count) => keep_signature(journal, history, loose, plant, signing, &room[..count]),
@@ -197,7 +202,8 @@ fn prepare(
     ensures signing { IfOk result (λ x. IsSigning x.1 entry.now) }
     ensures room { IfOk result (λ x. HasRoomToSign x.1) }
     ensures spare { IfOk result (λ x. (length x.0.items ≤ journal.new.spare) × (AROUND_A_CALLER + length x.1.caller ≤ journal.new.spare)) }
-    ensures end { journal.new.end ≡ journal.old.end }
+    ensures place { journal.new.at ≡ journal.old.at }
+    ensures linked { journal.new.chain ≡ journal.old.chain }
     ensures broken { journal.new.broken ≡ journal.old.broken }
     ensures items { history.new.items ≡ history.old.items }
     ensures capacity { IfOk result (λ x. vec_len history.new + 2 ≤ vec_capacity history.new) }
@@ -215,11 +221,12 @@ impl Engine {
     /// Sends a body. Its entry is committed before the signer is called; from then on no memory is taken.
     pub(crate) fn send<P: Plant>(&mut self, plant: &mut P, entry: Entry) -> Reply
         requires settled { self.old.loose ≡ None }
-        requires stands { StandsForPlant self.old (P.told plant.old) }
+        requires stands { Stands self.old (P.stops plant.old) }
         requires ready { IsReadyToSend self.old.history entry }
-        ensures carries { CarriesOut (Answer.Send entry) self.old.history (P.told plant.old) (P.told plant.new) result self.new }
+        ensures carries { CarriesOut (Answer.Send entry) self.old.history (P.told plant.old) (P.told plant.new) (P.stops plant.old) (P.stops plant.new) result self.new }
     {
         a_body_has_a_serial_number();
+        runs_join::<P>();
         let order = order_in(&entry.what);
         let Ok((payload, signing)) = prepare(
             self.alloc,
@@ -243,7 +250,7 @@ impl Engine {
 }
 
 /// Commits the entry of a body, and has the body signed.
-#[tactic(auto, using(crate::proofs::Signings::carries_signed, crate::proofs::Signings::carries_unsent))]
+#[tactic(auto, using(crate::proofs::Signings::carries_unsent))]
 fn send_prepared<P: Plant>(
     journal: &mut Journal,
     history: &mut Vec<Entry>,
@@ -255,18 +262,20 @@ fn send_prepared<P: Plant>(
 ) -> Reply
     requires sound { Sound journal.old history.old.items loose.old }
     requires settled { loose.old ≡ None }
-    requires stands { StandsForPlant (held_as history.old.items loose.old) (P.told plant.old) }
+    requires stands { Stands (held_as history.old.items loose.old) (P.stops plant.old) }
     requires ready { IsReadyToSend history.old.items entry }
     requires payload { payload.now ≡ entry_bytes entry }
     requires signing { IsSigning signing entry }
     requires room { HasRoomToSign signing }
     requires spare { (length payload.now ≤ journal.old.spare) × (AROUND_A_CALLER + length signing.caller ≤ journal.old.spare) }
     requires capacity { vec_len history.old + 2 ≤ vec_capacity history.old }
-    ensures carries { CarriesOut (Answer.Send entry) history.old.items (P.told plant.old) (P.told plant.new) result (held_as history.new.items loose.new) }
+    ensures carries { CarriesOut (Answer.Send entry) history.old.items (P.told plant.old) (P.told plant.new) (P.stops plant.old) (P.stops plant.new) result (held_as history.new.items loose.new) }
     ensures sound { Sound journal.new history.new.items loose.new }
 {
     one_entry_more();
     a_signature_follows();
+    what_is_sent_is_recorded();
+    runs_join::<P>();
     if !commit(journal, history, loose, plant, entry, payload) {
         return Reply::DiskFault;
     }

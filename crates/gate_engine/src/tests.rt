@@ -3,12 +3,16 @@ ghost use Rattle.std.specs.Prelude.{◌≡◌, ◌<◌, ◌≤◌, ◌^◌, leng
 ghost use Rattle.gate_entries.specs.Target.{IsTarget, AreTargets};
 ghost use Rattle.gate_entries.specs.Command.{IsCommand, IsCaller};
 
+mod full;
+mod held;
+mod stops;
+
 use super::*;
-use crate::listed::{Row, Rows, payload, put, put_counted, records};
+use crate::listed::{Row, Rows, payload, put};
 use crate::requests::request;
 use gate_base::{Bytes, Moment, Role, Sequence, Target, Targets};
 use gate_entries::{Caller, Command, Reply, Why, Whys, read_name_text};
-use plain_journal::{Journal, MAX_PAYLOAD};
+use journal_core::{Journal, MAX_PAYLOAD, group_total};
 use plant::{Fail, ListClock, ListEntropy, MemoryPlant};
 use std::alloc::Global;
 use std::marker::Model;
@@ -22,9 +26,14 @@ pub const LAST: u64 = 4_102_444_799;
 /// 2026-09-21T14:13:20Z, when the journal began.
 pub const BEGUN: u64 = 1_790_000_000;
 
-/// The head, and the record of empty settings at that moment.
-const BEGUN_DISK: &[u8] =
-    b"gate journal 00\n\0\0\0\x17\x01\0\0\0\0\0\0\0\x01\0\0\0\0\x6a\xb1\x3b\x80\0\0\0\0\0\0";
+/// The head, an open gate, and the group of empty settings at that moment, whose chain Python's hashlib computes.
+pub const BEGUN_FRONT: &[u8] = b"gate journal 01\n\x01\0\0\0\x17\
+    \x62\x49\xa0\x45\x9c\xa5\xd2\xcc\x20\x92\x8f\x29\x70\x17\xda\xb8\
+    \xac\xc0\xa3\xe9\xba\xae\xfc\xc8\xd7\x3d\xb0\x32\xa5\xd0\xa5\x0b\
+    \x01\0\0\0\0\0\0\0\x01\0\0\0\0\x6a\xb1\x3b\x80\0\0\0\0\0\0";
+
+/// The length of a journal that was begun: those bytes and a closed gate.
+const BEGUN_BYTES: u64 = 77;
 
 /// The greatest length of a journal.
 pub const MOST_BYTES: u64 = 67_108_864;
@@ -164,14 +173,14 @@ pub struct Gate {
 
 impl Model for Gate {
     ghost use Rattle.gate_machine.specs.Move.{Held};
-    ghost use Rattle.plant.specs.Memory.{plant_told};
-    ghost use Rattle.gate_engine.specs.Engine.{StandsForPlant};
+    ghost use Rattle.plant.specs.Memory.{plant_stops};
+    ghost use Rattle.gate_engine.specs.Kept.{Stands};
 
     ghost Value = { Held };
 
     ghost view = { λ g. g.engine };
 
-    ghost invariant = { λ g. StandsForPlant g.engine (plant_told g.plant) };
+    ghost invariant = { λ g. Stands g.engine (plant_stops g.plant) };
 }
 
 impl Gate {
@@ -287,14 +296,14 @@ const COMMANDS: &[(Asked, Said)] = &[
     ((1, 3, 0), (PLACED, 4)),
     ((1, 0, 1), (KEY_REUSED, 3)),
     ((0, 0, 0), (PLACED, 2)),
-    // the write fails, then each of the four calls that read the disk again
+    // the group's write fails, then each of the four calls of the mount
     ((0, 1, 0), (DISK_FAULT, 0)),
     ((0, 1, 0), (DISK_FAULT, 0)),
     ((0, 0, 0), (DISK_FAULT, 0)),
     ((0, 0, 1), (DISK_FAULT, 0)),
     ((1, 1, 0), (DISK_FAULT, 0)),
     ((0, 1, 0), (PLACED, 5)),
-    // the sync fails: the order comes back
+    // the gate's sync fails: the order comes back
     ((2, 2, 0), (DISK_FAULT, 0)),
     ((2, 2, 0), (PLACED, 6)),
     ((2, 2, 1), (KEY_REUSED, 6)),
@@ -302,15 +311,17 @@ const COMMANDS: &[(Asked, Said)] = &[
     ((0, 4, 0), (DISK_FAULT, 0)),
     ((0, 0, 0), (CLOCK_FAULT, 0)),
     ((0, 4, 1), (KEY_REUSED, 7)),
-    // the write fails, and another order takes the number
+    // the group's sync fails, and another order takes the number
     ((3, 0, 0), (DISK_FAULT, 0)),
     ((3, 1, 0), (PLACED, 8)),
     // the last moment, and readings below it
     ((3, 0, 4), (PLACED, 9)),
     ((3, 0, 4), (PLACED, 9)),
+    // the gate's write fails: the order is gone
+    ((3, 2, 0), (DISK_FAULT, 0)),
     ((3, 2, 0), (PLACED, 10)),
     ((2, 0, 3), (CLOCK_RANGE, LAST + 1)),
-    // the sync fails, and another order finds the key taken
+    // the gate's sync fails, and another order finds the key taken
     ((2, 0, 3), (DISK_FAULT, 0)),
     ((2, 0, 2), (KEY_REUSED, 11)),
     ((2, 0, 3), (PLACED, 11)),
@@ -346,20 +357,21 @@ const READINGS: &[Option<u64>] = &[
     Some(LAST),
     Some(FIRST),
     Some(BEGUN),
+    Some(BEGUN),
     Some(LAST + 1),
     Some(LAST),
 ];
 
-/// The calls of the disk that fail. Three begin the journal, and four read it.
-const FAILS: &[u64] = &[14, 15, 17, 20, 24, 32, 38, 43, 55];
+/// The calls of the disk that fail. Seven begin the journal, four mount it, and four commit an entry: the group's write
+/// and its sync, the gate's write and its sync.
+const FAILS: &[u64] = &[24, 25, 27, 30, 34, 46, 54, 60, 75, 87];
 
 fn begun_rows(alloc: Global) -> Rows<'static> {
     Rows {
-        before: 1,
         rows: Vec::new(alloc),
-        size: 43,
+        size: BEGUN_BYTES,
         loose: false,
-        calls: 7,
+        calls: 11,
         fails: FAILS,
         readings: READINGS,
         read: 0,
@@ -371,6 +383,13 @@ fn begun_gate(rt: &impl Abort, alloc: Global, rows: &Rows<'_>) -> Gate {
     let mut plant = empty_plant(rt, alloc, rows.fails);
     begin(alloc, &mut plant, Moment(BEGUN)).expect(rt, "a journal");
     gate_over(rt, alloc, plant, rows.readings)
+}
+
+/// A gate over a journal that was begun, where the clock gives that moment.
+pub fn begun_gate_at(rt: &impl Abort, alloc: Global, moment: u64) -> Gate {
+    let mut plant = empty_plant(rt, alloc, &[]);
+    begin(alloc, &mut plant, Moment(BEGUN)).expect(rt, "a journal");
+    gate_over(rt, alloc, plant, &[Some(moment)])
 }
 
 /// The list and the gate answer each command so.
@@ -391,16 +410,23 @@ fn are_answered(
     }
 }
 
-/// From this place on the disk holds these orders.
-fn holds(rt: &impl Abort, alloc: Global, plant: &MemoryPlant, at: usize, rows: &Rows<'_>) {
-    let records = records(rt, alloc, &rows.rows);
-    assert_eq!(rt; plant.disk().get(at..), Some(records.as_slice()));
+/// Behind the settings the disk holds these orders, and nothing stands behind its closed gate.
+fn holds(rt: &impl Abort, alloc: Global, plant: &mut MemoryPlant, rows: &Rows<'_>) {
     assert_eq!(rt; plant.disk().len() as u64, rows.size);
     assert_eq!(rt; plant.short(), 0);
+    let (_, payloads) = Journal::mount(alloc, plant).expect(rt, "a journal");
+    assert_eq!(rt; payloads.len(), rows.rows.len().saturating_add(1));
+    let behind = payloads.as_slice().iter().skip(1);
+    for (written, row) in behind.zip(rows.rows.as_slice()) {
+        assert!(rt;
+            written.as_slice() == payload(rt, alloc, *row).as_slice(),
+            "{row:?}"
+        );
+    }
 }
 
 /// How many entries an engine has that starts from the disk.
-fn count_again(rt: &impl Abort, alloc: Global, plant: &mut MemoryPlant) -> u64 {
+pub fn count_again(rt: &impl Abort, alloc: Global, plant: &mut MemoryPlant) -> u64 {
     let mut clock = clock(rt, alloc, &[]);
     let engine = Engine::start(alloc, plant, &mut clock, &[]).expect(rt, "an engine");
     engine.count()
@@ -414,102 +440,18 @@ fn a_table_of_commands_is_answered_as_by_a_list(rt: HostRuntime) {
     are_answered(&rt, alloc, &mut rows, &mut gate, COMMANDS);
     assert_eq!(rt; rows.rows.len(), 10);
     assert_eq!(rt; gate.engine.count(), 11);
-    assert_eq!(rt; gate.plant.disk().get(..43), Some(BEGUN_DISK));
-    holds(&rt, alloc, &gate.plant, 43, &rows);
+    assert_eq!(rt; gate.plant.disk().get(..76), Some(BEGUN_FRONT));
+    holds(&rt, alloc, &mut gate.plant, &rows);
     assert_eq!(rt; count_again(&rt, alloc, &mut gate.plant), 11);
-}
-
-// ---- a journal that fills up
-
-/// Caller, key and content of each command where 334 bytes are left, and its reply.
-const LAST_COMMANDS: &[(Asked, Said)] = &[
-    // 168 bytes, and then one more than are left
-    ((0, 0, 0), (PLACED, 1121)),
-    ((1, 0, 0), (FULL, 0)),
-    ((0, 0, 0), (PLACED, 1121)),
-    ((0, 0, 1), (KEY_REUSED, 1121)),
-    // as many as are left
-    ((3, 1, 0), (PLACED, 1122)),
-    ((3, 2, 0), (FULL, 0)),
-    ((3, 1, 0), (PLACED, 1122)),
-    ((3, 1, 4), (KEY_REUSED, 1122)),
-];
-
-/// A blocked key, under its number as the retry key. Its record takes 32 bytes more than the key.
-fn put_long_block(rt: &impl Abort, out: &mut Vec<u8>, number: u16, spki: &[u8]) {
-    let size = u16::try_from(spki.len()).expect(rt, "a key");
-    let behind_length = size.checked_add(28).expect(rt, "a record");
-    put(rt, out, &[0, 0]);
-    put(rt, out, &behind_length.to_be_bytes());
-    put(rt, out, &[8]);
-    put(rt, out, &u64::from(number).to_be_bytes());
-    put(rt, out, &BEGUN.to_be_bytes());
-    put(rt, out, b"\0\x02op");
-    put_counted(rt, out, &digits(number));
-    put(rt, out, &size.to_be_bytes());
-    put(rt, out, spki);
-}
-
-/// The number in four letters from a to p, of 16 values each.
-fn digits(number: u16) -> [u8; 4] {
-    let [high, low] = number.to_be_bytes();
-    [
-        b'a'.saturating_add(high / 16),
-        b'a'.saturating_add(high % 16),
-        b'a'.saturating_add(low / 16),
-        b'a'.saturating_add(low % 16),
-    ]
-}
-
-/// A disk with 1120 entries, on which 334 bytes are left.
-fn nearly_full_disk(rt: &impl Abort, alloc: Global) -> Bytes {
-    let mut out = BEGUN_DISK.to_vec(alloc).expect(rt, "memory");
-    let mut spki = Vec::new(alloc);
-    spki.resize(59_968, 0).expect(rt, "memory");
-    for number in 2..1120 {
-        put_long_block(rt, &mut out, number, &spki);
-    }
-    spki.truncate(28_455);
-    put_long_block(rt, &mut out, 1120, &spki);
-    Bytes::from_vec(out)
-}
-
-fn nearly_full_gate(rt: &impl Abort, alloc: Global, readings: &[Option<u64>]) -> Gate {
-    let disk = nearly_full_disk(rt, alloc);
-    let plant = MemoryPlant::new(alloc, disk, Bytes::new(alloc), Sequence::new(alloc));
-    gate_over(rt, alloc, plant, readings)
-}
-
-fn nearly_full_rows(alloc: Global) -> Rows<'static> {
-    Rows {
-        before: 1120,
-        rows: Vec::new(alloc),
-        size: MOST_BYTES - 334,
-        loose: false,
-        calls: 4,
-        fails: &[],
-        readings: &[Some(BEGUN)],
-        read: 0,
-    }
-}
-
-#[test]
-fn a_journal_fills_up_to_its_last_byte(rt: HostRuntime) {
-    let alloc = rt.alloc();
-    let mut rows = nearly_full_rows(alloc);
-    let mut gate = nearly_full_gate(&rt, alloc, rows.readings);
-    are_answered(&rt, alloc, &mut rows, &mut gate, LAST_COMMANDS);
-    assert_eq!(rt; gate.engine.count(), 1122);
-    holds(&rt, alloc, &gate.plant, 67_108_530, &rows);
 }
 
 // ---- payloads that are no legal history
 
-/// What the first record of a journal holds that began at that moment.
+/// The payload of the first group of a journal that began at that moment.
 const SETTINGS: &[u8] = b"\x01\0\0\0\0\0\0\0\x01\0\0\0\0\x6a\xb1\x3b\x80\0\0\0\0\0\0";
 
-/// An order that may come behind these settings. Its record takes 168 bytes.
-const ORDER: Row = Row {
+/// An order that may come behind these settings. Its group takes 201 bytes.
+pub const ORDER: Row = Row {
     number: 2,
     moment: BEGUN,
     caller: 0,
@@ -519,7 +461,7 @@ const ORDER: Row = Row {
 
 fn begin_with(rt: &impl Abort, alloc: Global, plant: &mut MemoryPlant, payload: &[u8]) {
     assert!(rt; 1 <= payload.len() && payload.len() <= MAX_PAYLOAD);
-    plain_journal::begin(alloc, plant, payload).expect(rt, "a journal");
+    journal_core::begin(alloc, plant, payload).expect(rt, "a journal");
 }
 
 fn append(rt: &impl Abort, alloc: Global, plant: &mut MemoryPlant, payload: &[u8]) {
@@ -527,7 +469,7 @@ fn append(rt: &impl Abort, alloc: Global, plant: &mut MemoryPlant, payload: &[u8
     let size = payload.len() as u64;
     let (mut journal, _) = Journal::mount(alloc, plant).expect(rt, "a journal");
     journal.reserve(size).expect(rt, "memory");
-    assert!(rt; journal.has_room(size + 4));
+    assert!(rt; journal.has_room(group_total(size)));
     journal.append(plant, payload).expect(rt, "a disk");
 }
 
@@ -537,9 +479,9 @@ fn start_fault(rt: &impl Abort, alloc: Global, plant: &mut MemoryPlant) -> Optio
     Engine::start(alloc, plant, &mut clock, &[]).err()
 }
 
-/// What a record of a journal holds.
+/// The payload of a group.
 #[derive(Clone, Copy, Debug)]
-enum Record {
+enum Payload {
     /// The settings that a journal begins with, and an order that may come behind them.
     Begin,
     FirstOrder,
@@ -550,10 +492,10 @@ enum Record {
     These(&'static [u8]),
 }
 
-use Record::{Begin, FirstOrder, Keyed, Numbered, These};
+use Payload::{Begin, FirstOrder, Keyed, Numbered, These};
 
-fn record_payload(rt: &impl Abort, alloc: Global, record: Record) -> Vec<u8> {
-    match record {
+fn payload_bytes(rt: &impl Abort, alloc: Global, wanted: Payload) -> Vec<u8> {
+    match wanted {
         Begin => SETTINGS.to_vec(alloc).expect(rt, "memory"),
         These(written) => written.to_vec(alloc).expect(rt, "memory"),
         FirstOrder => payload(rt, alloc, ORDER),
@@ -578,27 +520,22 @@ fn record_payload(rt: &impl Abort, alloc: Global, record: Record) -> Vec<u8> {
     }
 }
 
-/// Begins a journal with the first of these records, and appends the others.
-fn fault_of_records(rt: &impl Abort, alloc: Global, records: &[Record]) -> Option<StartFault> {
+/// Begins a journal with the first of these payloads, and appends the others.
+fn fault_of_payloads(rt: &impl Abort, alloc: Global, payloads: &[Payload]) -> Option<StartFault> {
     let mut plant = empty_plant(rt, alloc, &[]);
-    for (place, record) in records.iter().enumerate() {
-        let payload = record_payload(rt, alloc, *record);
+    for (place, payload) in payloads.iter().enumerate() {
+        let written = payload_bytes(rt, alloc, *payload);
         if place == 0 {
-            begin_with(rt, alloc, &mut plant, &payload);
+            begin_with(rt, alloc, &mut plant, &written);
         } else {
-            append(rt, alloc, &mut plant, &payload);
+            append(rt, alloc, &mut plant, &written);
         }
     }
     start_fault(rt, alloc, &mut plant)
 }
 
-/// The same for these bytes, and zeros up to the size where they are fewer.
-fn fault_of_bytes(
-    rt: &impl Abort,
-    alloc: Global,
-    pieces: &[&[u8]],
-    size: usize,
-) -> Option<StartFault> {
+/// A disk with these bytes, and zeros up to the size where they are fewer.
+pub fn plant_of(rt: &impl Abort, alloc: Global, pieces: &[&[u8]], size: usize) -> MemoryPlant {
     let mut disk = Vec::new(alloc);
     for piece in pieces {
         put(rt, &mut disk, piece);
@@ -606,63 +543,67 @@ fn fault_of_bytes(
     let size = size.max(disk.len());
     disk.resize(size, 0).expect(rt, "memory");
     let disk = Bytes::from_vec(disk);
-    let mut plant = MemoryPlant::new(alloc, disk, Bytes::new(alloc), Sequence::new(alloc));
-    start_fault(rt, alloc, &mut plant)
+    MemoryPlant::new(alloc, disk, Bytes::new(alloc), Sequence::new(alloc))
 }
 
-/// The records of a journal, and from which place on it is bad.
-const JOURNALS: &[(&[Record], Option<u64>)] = &[
+/// The payloads of a journal, and from which place on it is bad.
+const JOURNALS: &[(&[Payload], Option<u64>)] = &[
     // numbers and moments behind the settings
     (&[Begin, Numbered(2, BEGUN)], None),
     (&[Begin, Numbered(2, LAST)], None),
-    (&[Begin, Numbered(0, BEGUN)], Some(43)),
-    (&[Begin, Numbered(1, BEGUN)], Some(43)),
-    (&[Begin, Numbered(3, BEGUN)], Some(43)),
-    (&[Begin, Numbered(u64::MAX, BEGUN)], Some(43)),
-    (&[Begin, Numbered(2, BEGUN - 1)], Some(43)),
-    (&[Begin, Numbered(2, LAST + 1)], Some(43)),
+    (&[Begin, Numbered(0, BEGUN)], Some(76)),
+    (&[Begin, Numbered(1, BEGUN)], Some(76)),
+    (&[Begin, Numbered(3, BEGUN)], Some(76)),
+    (&[Begin, Numbered(u64::MAX, BEGUN)], Some(76)),
+    (&[Begin, Numbered(2, BEGUN - 1)], Some(76)),
+    (&[Begin, Numbered(2, LAST + 1)], Some(76)),
     // fields that break a rule
-    (&[Begin, Keyed(2, 0, 0, 5)], Some(43)),
-    (&[Begin, Keyed(2, 0, 0, 6)], Some(43)),
+    (&[Begin, Keyed(2, 0, 0, 5)], Some(76)),
+    (&[Begin, Keyed(2, 0, 0, 6)], Some(76)),
     // keys behind an order
     (&[Begin, FirstOrder, Keyed(3, 0, 1, 0)], None),
     (&[Begin, FirstOrder, Keyed(3, 1, 0, 0)], None),
-    (&[Begin, FirstOrder, Keyed(3, 0, 0, 0)], Some(211)),
-    (&[Begin, FirstOrder, Keyed(3, 0, 0, 1)], Some(211)),
-    (&[Begin, FirstOrder, Keyed(2, 0, 1, 0)], Some(211)),
+    (&[Begin, FirstOrder, Keyed(3, 0, 0, 0)], Some(277)),
+    (&[Begin, FirstOrder, Keyed(3, 0, 0, 1)], Some(277)),
+    (&[Begin, FirstOrder, Keyed(2, 0, 1, 0)], Some(277)),
     // other payloads
     (&[FirstOrder, Begin], Some(16)),
     (&[Numbered(1, BEGUN), Begin], Some(16)),
-    (&[Begin, Begin], Some(43)),
-    (&[Begin, These(b"x")], Some(43)),
+    (&[Begin, Begin], Some(76)),
+    (&[Begin, These(b"x")], Some(76)),
     (&[These(b"x"), These(b"x")], Some(16)),
 ];
 
-const HEAD: &[u8] = b"gate journal 00\n";
+const HEAD: &[u8] = b"gate journal 01\n";
 
 const BAD_FIRST: Option<StartFault> = Some(StartFault::JournalBad { at: 16 });
 
-const BAD_SECOND: Option<StartFault> = Some(StartFault::JournalBad { at: 43 });
+const BAD_SECOND: Option<StartFault> = Some(StartFault::JournalBad { at: 76 });
 
 /// The bytes of a disk, its size where that is more, and why no engine starts from it.
 const DISKS: &[(&[&[u8]], usize, Option<StartFault>)] = &[
     (&[], 0, Some(StartFault::NotBegun)),
-    (&[b"gate journal 0\n"], 0, Some(StartFault::NotBegun)),
-    (&[BEGUN_DISK], 0, None),
-    // no record, and torn ones
-    (&[HEAD], 0, BAD_FIRST),
-    (&[HEAD, b"\0\0\0"], 0, BAD_FIRST),
-    (&[HEAD, b"\0\0\0\0"], 0, BAD_FIRST),
-    (&[HEAD, b"\0\0\0\x02\x02"], 0, BAD_FIRST),
-    // a torn second record
-    (&[BEGUN_DISK, b"\0"], 0, BAD_SECOND),
-    (&[BEGUN_DISK, b"\0\0\0\0"], 0, BAD_SECOND),
-    (&[BEGUN_DISK, b"\0\0\0\x03\x02\0"], 0, BAD_SECOND),
-    (&[BEGUN_DISK, b"\xff\xff\xff\xff\x02"], 0, BAD_SECOND),
+    (&[HEAD], 0, Some(StartFault::NotBegun)),
+    (&[b"gate journal 00\n\0"], 0, Some(StartFault::NotBegun)),
+    (&[BEGUN_FRONT, b"\0"], 0, None),
+    // no entry, and a first group that isn't whole
+    (&[HEAD, b"\0"], 0, BAD_FIRST),
+    (&[HEAD, b"\x01"], 0, BAD_FIRST),
+    (&[HEAD, b"\x01\0\0"], 0, BAD_FIRST),
+    (&[HEAD, b"\x01\0\0\0\0"], 100, BAD_FIRST),
+    (&[HEAD, b"\x01\0\0\0\x17"], 100, BAD_FIRST),
+    (&[BEGUN_FRONT], 0, BAD_FIRST),
+    // no second group behind an open gate
+    (&[BEGUN_FRONT, b"\x01"], 0, BAD_SECOND),
+    (&[BEGUN_FRONT, b"\x01\0\0\0\0"], 120, BAD_SECOND),
+    (&[BEGUN_FRONT, b"\x01\xff\xff\xff\xff"], 120, BAD_SECOND),
+    // any bytes behind a closed gate
+    (&[BEGUN_FRONT, b"\0\x01\xff"], 200, None),
+    (&[BEGUN_FRONT, b"\x02\xff"], 200, None),
     // the greatest length of a journal, and one byte more
     (&[HEAD], 67_108_864, BAD_FIRST),
     (
-        &[HEAD],
+        &[BEGUN_FRONT],
         67_108_865,
         Some(StartFault::JournalBad { at: 67_108_864 }),
     ),
@@ -670,17 +611,18 @@ const DISKS: &[(&[&[u8]], usize, Option<StartFault>)] = &[
 
 #[test]
 fn no_engine_starts_from_a_journal_that_is_not_legal(rt: HostRuntime) {
-    for (records, want) in JOURNALS {
-        let fault = fault_of_records(&rt, rt.alloc(), records);
+    for (payloads, want) in JOURNALS {
+        let fault = fault_of_payloads(&rt, rt.alloc(), payloads);
         let want = want.map(|at| StartFault::JournalBad { at });
-        assert_eq!(rt; fault, want, "{records:?}");
+        assert_eq!(rt; fault, want, "{payloads:?}");
     }
 }
 
 #[test]
 fn no_engine_starts_from_bytes_that_are_no_journal(rt: HostRuntime) {
     for (pieces, size, want) in DISKS {
-        let fault = fault_of_bytes(&rt, rt.alloc(), pieces, *size);
+        let mut plant = plant_of(&rt, rt.alloc(), pieces, *size);
+        let fault = start_fault(&rt, rt.alloc(), &mut plant);
         assert_eq!(rt; fault, *want, "{pieces:?} of {size} bytes");
     }
 }

@@ -2,25 +2,27 @@
 ghost use Rattle.std.specs.Prelude.{◌≡◌, ◌+◌, ◌≤◌, ◌<◌, ◌⊎◌, None, [], ◌∷◌, ◌++◌, length, vec_len, vec_capacity, IfOk, OnErr, IsTrue, IsFalse};
 ghost use Rattle.plant.specs.Causes.{Rose};
 ghost use Rattle.gate_entries.specs.Spelling.{entry_bytes, IsEntry};
-ghost use Rattle.gate_machine.specs.History.{journal_size, record_size, Follows};
-ghost use Rattle.gate_machine.specs.Answer.{IsReadyToWrite};
+ghost use Rattle.gate_machine.specs.History.{Follows};
+ghost use Rattle.gate_machine.specs.Answer.{HasRoom, IsReadyToWrite};
 ghost use Rattle.gate_machine.specs.Move.{Holds, Waits};
-ghost use Rattle.gate_engine.specs.Engine.{StandsForPlant, CarriesOut, Sound, held_as};
+ghost use Rattle.gate_engine.specs.Engine.{CarriesOut, Sound, held_as};
+ghost use Rattle.gate_engine.specs.Kept.{Stands, IsSentOf, Keeps};
 
 use crate::engine::Engine;
 use gate_base::NoMemory;
 use gate_entries::{Entry, Reply, write_entry};
-use gate_machine::{Answer, one_entry_more, written_reply};
-use plain_journal::{AppendDisk, Journal, one_record_more};
-use plant::Plant;
+use gate_machine::{Answer, one_entry_more, what_is_sent_is_recorded, written_reply};
+use journal_core::{AppendDisk, Journal, one_group_more};
+use plant::{Plant, runs_join};
 use std::alloc::Global;
 
-/// An entry's payload, and the room for its record.
+/// An entry's payload, and the room for its group.
 pub fn spell(alloc: Global, journal: &mut Journal, entry: &Entry) -> Result<Vec<u8>, NoMemory>
     requires { IsEntry entry.now }
     ensures payload { IfOk result (λ payload. payload.items ≡ entry_bytes entry.now) }
     ensures spare { IfOk result (λ payload. length payload.items ≤ journal.new.spare) }
-    ensures end { journal.new.end ≡ journal.old.end }
+    ensures place { journal.new.at ≡ journal.old.at }
+    ensures linked { journal.new.chain ≡ journal.old.chain }
     ensures broken { journal.new.broken ≡ journal.old.broken }
 {
     let mut payload = Vec::new(alloc);
@@ -40,25 +42,28 @@ pub fn commit<P: Plant>(
 ) -> bool
     requires sound { Sound journal.old history.old.items loose.old }
     requires settled { loose.old ≡ None }
-    requires stands { StandsForPlant (held_as history.old.items loose.old) (P.told plant.old) }
+    requires stands { Stands (held_as history.old.items loose.old) (P.stops plant.old) }
     requires follows { Follows history.old.items entry }
-    requires room { journal_size history.old.items + record_size entry ≤ 67_108_864 }
+    requires room { HasRoom history.old.items entry }
     requires payload { payload.now ≡ entry_bytes entry }
     requires spare { length payload.now ≤ journal.old.spare }
     requires capacity { vec_len history.old < vec_capacity history.old }
     ensures committed { IsTrue result → Holds (held_as history.new.items loose.new) (history.old.items ++ entry ∷ []) }
     ensures lost { IsFalse result → Waits history.old.items entry (held_as history.new.items loose.new) }
     ensures sound { Sound journal.new history.new.items loose.new }
-    ensures stands { StandsForPlant (held_as history.new.items loose.new) (P.told plant.new) }
+    // A stop leaves the history, with the entry or without it, and what the signer was sent as before.
+    ensures keeps { Keeps (IsSentOf history.old.items (P.stops plant.old)) history.old.items (P.told plant.old) (P.told plant.new) (P.stops plant.old) (P.stops plant.new)
+        (held_as history.new.items loose.new) }
+    ensures sent { IsSentOf history.old.items (P.stops plant.old) → IsSentOf history.old.items (P.stops plant.new) }
     ensures disk { IsFalse result → Rose (P.told plant.old).disk.faults (P.told plant.new).disk.faults }
-    ensures later { (P.told plant.old).disk.faults ≤ (P.told plant.new).disk.faults }
     ensures signer { (P.told plant.new).signer ≡ (P.told plant.old).signer }
     ensures spare { journal.new.spare ≡ journal.old.spare }
     ensures length { IsTrue result → vec_len history.new ≡ vec_len history.old + 1 }
     ensures capacity { vec_capacity history.old ≤ vec_capacity history.new }
 {
-    one_record_more();
+    one_group_more();
     one_entry_more();
+    what_is_sent_is_recorded();
     match journal.append(plant, payload) {
         Ok(()) => match history.push(entry) {
             Ok(()) => true,
@@ -76,10 +81,11 @@ impl Engine {
     #[tactic(auto, using(crate::proofs::Steps::carries_written, crate::proofs::Steps::carries_lost))]
     pub(crate) fn write<P: Plant>(&mut self, plant: &mut P, entry: Entry) -> Reply
         requires settled { self.old.loose ≡ None }
-        requires stands { StandsForPlant self.old (P.told plant.old) }
+        requires stands { Stands self.old (P.stops plant.old) }
         requires ready { IsReadyToWrite self.old.history entry }
-        ensures carries { CarriesOut (Answer.Write entry) self.old.history (P.told plant.old) (P.told plant.new) result self.new }
+        ensures carries { CarriesOut (Answer.Write entry) self.old.history (P.told plant.old) (P.told plant.new) (P.stops plant.old) (P.stops plant.new) result self.new }
     {
+        runs_join::<P>();
         let reply = written_reply(&entry);
         let Ok(payload) = spell(self.alloc, &mut self.journal, &entry) else {
             return Reply::NoMemory;

@@ -1,5 +1,5 @@
 use Rattle.std.proofs.Common.{[]}
-use Rattle.gate_engine.specs.Engine.{payloads_of}
+use Rattle.gate_machine.specs.History.{payloads_of}
 use Rattle.gate_engine.proofs.Histories.{same_history, not_bad}
 use Rattle.gate_engine.proofs.law.one_history.Goals as goal
 

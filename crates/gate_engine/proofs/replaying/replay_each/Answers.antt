@@ -1,9 +1,8 @@
 use Rattle.std.proofs.Common.{◌≢◌, ◌++◌, List, ℕ, drop, ap, subst, ◌∙◌}
 use Rattle.gate_entries.specs.declared.entry.Entry.{Entry}
 use Rattle.gate_entries.specs.Spelling.{entry_bytes}
-use Rattle.gate_machine.specs.History.{Follows}
+use Rattle.gate_machine.specs.History.{payloads_of, Follows}
 use Rattle.gate_engine.specs.declared.fault.ReplayFault.TheVariants.{Illegal}
-use Rattle.gate_engine.specs.Engine.{payloads_of}
 use Rattle.gate_engine.proofs.Starts.{strays, first_of, same_fault, as_fault}
 use Rattle.gate_engine.proofs.replaying.replay_each.Goals as goal
 

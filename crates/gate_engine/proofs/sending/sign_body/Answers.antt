@@ -1,13 +1,13 @@
 use Rattle.std.proofs.Common.{◌≡◌, ◌⊎◌, ◌∷◌, ◌++◌, [], ℕ, List, take, arith, Some, None, refl, inl, inr, ap, subst, ◌∙◌}
 use Rattle.std.specs.Option.{option_map}
 use Rattle.plant.specs.Plant.{DiskTold, SignerTold}
-use Rattle.gate_engine.proofs.Stands.{stands_same}
-use Rattle.gate_engine.proofs.Steps.{signer_other}
+use Rattle.gate_engine.proofs.Kept.{stands_sent, sent_sent, between_sent, between_sent_settled, between_on}
 use Rattle.gate_engine.proofs.sending.sign_body.Goals as goal
 
 pub keep_signature-requires-clause-stands : goal.keep_signature-requires-clause-stands
-keep_signature-requires-clause-stands g c = λ none.
-    stands_same _ _ _ _ (c.requires.stands c.requires.settled) refl (ap (λ (d : DiskTold). d.bytes) c.sign.ensures.disk)
+keep_signature-requires-clause-stands g c =
+    stands_sent c.args.history.now.items c.args.loose.now c.requires.settled c.args.signing.body _ c.as_slice.ensures (g.P.Plant.stops c.args.plant.now)
+    (g.P.Plant.stops c.sign.new.self) c.requires.stands c.sign.ensures.moments
 
 pub returns-in-Ok-clause-signed : goal.returns-in-Ok-clause-signed
 returns-in-Ok-clause-signed g c =
@@ -28,12 +28,20 @@ returns-in-Ok-clause-signed g c =
       signs = inr (record { signature = signature; called = refl; follows = c.keep_signature.ensures.follows; keeps = c.keep_signature.ensures.kept });
     }
 
-pub returns-in-Ok-clause-leaves : goal.returns-in-Ok-clause-leaves
-returns-in-Ok-clause-leaves g c = record {
-  stands = c.keep_signature.ensures.stands;
-  later = omega (arith, c.keep_signature.ensures.later, ap (λ (d : DiskTold). d.faults) c.sign.ensures.disk);
-  cause = λ is. let rose = c.keep_signature.ensures.disk is in omega (arith, rose, ap (λ (d : DiskTold). d.faults) c.sign.ensures.disk);
-}
+pub returns-in-Ok-clause-keeps : goal.returns-in-Ok-clause-keeps
+returns-in-Ok-clause-keeps g c =
+    let sent = between_sent_settled c.args.history.now.items c.args.loose.now c.requires.settled c.args.signing.body _ c.as_slice.ensures (g.P.Plant.stops c.args.plant.now)
+    (g.P.Plant.stops c.sign.new.self) c.requires.stands c.sign.ensures.moments in
+    let kept = c.keep_signature.ensures.keeps in
+    record {
+      stands = kept.stands;
+      recorded = λ given. kept.recorded (sent_sent c.args.history.now.items c.args.loose.now c.requires.settled c.args.signing.body _ c.as_slice.ensures (g.P.Plant.stops c.args.plant.now)
+          (g.P.Plant.stops c.sign.new.self) c.requires.stands c.sign.ensures.moments given.0 given.1);
+      since = between_on _ _ (λ given. sent_sent c.args.history.now.items c.args.loose.now c.requires.settled c.args.signing.body _ c.as_slice.ensures (g.P.Plant.stops c.args.plant.now)
+          (g.P.Plant.stops c.sign.new.self) c.requires.stands c.sign.ensures.moments given.0 given.1)
+          _ _ _ _ _ _ (c.runs_join.ensures.joins c.args.plant.now c.sign.new.self c.keep_signature.new.plant sent.joins kept.since.joins) sent kept.since;
+      later = omega (arith, ap (λ (d : DiskTold). d.faults) c.sign.ensures.disk, kept.later);
+    }
 
 pub returns-in-Err-clause-signed : goal.returns-in-Err-clause-signed
 returns-in-Err-clause-signed g c =
@@ -49,9 +57,13 @@ returns-in-Err-clause-signed g c =
       signs = inl (record { called = refl; fault = refl; held = (refl, c.requires.settled) });
     }
 
-pub returns-in-Err-clause-leaves : goal.returns-in-Err-clause-leaves
-returns-in-Err-clause-leaves g c = record {
-  stands = λ none. stands_same _ _ _ _ (c.requires.stands c.requires.settled) refl (ap (λ (d : DiskTold). d.bytes) c.sign.ensures.disk);
+pub returns-in-Err-clause-keeps : goal.returns-in-Err-clause-keeps
+returns-in-Err-clause-keeps g c = record {
+  stands = stands_sent c.args.history.now.items c.args.loose.now c.requires.settled c.args.signing.body _ c.as_slice.ensures (g.P.Plant.stops c.args.plant.now)
+      (g.P.Plant.stops c.sign.new.self) c.requires.stands c.sign.ensures.moments;
+  recorded = λ given. sent_sent c.args.history.now.items c.args.loose.now c.requires.settled c.args.signing.body _ c.as_slice.ensures (g.P.Plant.stops c.args.plant.now)
+      (g.P.Plant.stops c.sign.new.self) c.requires.stands c.sign.ensures.moments given.0 given.1;
+  since = between_sent c.args.history.now.items c.args.loose.now c.requires.settled c.args.signing.body _ c.as_slice.ensures (g.P.Plant.stops c.args.plant.now)
+      (g.P.Plant.stops c.sign.new.self) c.requires.stands c.sign.ensures.moments;
   later = omega (arith, ap (λ (d : DiskTold). d.faults) c.sign.ensures.disk);
-  cause = λ is. absurd (signer_other is);
 }

@@ -17,8 +17,10 @@ unreachable-requires g c =
 pub returns-in-Say : goal.returns-in-Say
 returns-in-Say g c =
     let told = g.P.Plant.told c.args.plant.now in
+    let stops = g.P.Plant.stops c.args.plant.now in
     let other = subst (λ (a : Answer). MayBe (Some some_draw) a) c.in-Say.is (c.requires.may some_draw) in
     record {
-      carries = subst (λ (a : Answer). CarriesOut a c.args.self.now.history told told c.in-Say.reply c.args.self.now) (sym c.in-Say.is)
-          (carries_said c.in-Say.reply c.args.self.now.history told c.args.self.now other (refl, c.requires.settled) c.requires.stands);
+      carries = subst (λ (a : Answer). CarriesOut a c.args.self.now.history told told stops stops c.in-Say.reply c.args.self.now) (sym c.in-Say.is)
+          (carries_said c.in-Say.reply c.args.self.now.history told stops c.args.self.now other (refl, c.requires.settled) c.requires.stands
+          (c.runs_join.ensures.still c.args.plant.now));
     }

@@ -1,0 +1,121 @@
+//! An engine together with what it stands over.
+ghost use Rattle.std.specs.Prelude.{◌≡◌, ℕ, [], length, None, IfOk, IfErr};
+ghost use Rattle.std.specs.Option.{ForSome};
+ghost use Rattle.plant.specs.Causes.{Rose};
+ghost use Rattle.plant.specs.Joining.{Stays};
+ghost use Rattle.journal_core.specs.Journal.{IsJournal};
+ghost use Rattle.gate_entries.specs.Command.{IsCommand, IsCaller};
+ghost use Rattle.gate_machine.specs.History.{payloads_of};
+ghost use Rattle.gate_machine.specs.Move.{Held as HeldValue, IsSound, Settles};
+ghost use Rattle.gate_machine.specs.Step.{Step};
+ghost use Rattle.gate_engine.specs.Engine.{IsOutside, state_of};
+ghost use Rattle.gate_engine.specs.Gate.{Wrote};
+ghost use Rattle.gate_engine.specs.Kept.{Kept, KeepsLegal};
+
+use crate::answered::Said;
+use crate::engine::Engine;
+use crate::fault::StartFault;
+use gate_entries::{Caller, Command, Reply};
+use plant::{Clock, Entropy, Plant};
+use std::alloc::Global;
+use std::marker::Model;
+
+/// An engine, and the plant, the clock and the random draws that it stands over. Whatever a stop leaves of the plant, recovery finds
+/// the engine's history, or this and what is loose.
+#[derive(Drop)]
+pub struct Held<P: Plant, C: Clock, E: Entropy> {
+    engine: Engine,
+    plant: P,
+    clock: C,
+    entropy: E,
+}
+
+impl<P: Plant, C: Clock, E: Entropy> Model for Held<P, C, E> {
+    ghost use Rattle.gate_engine.specs.Gate.{Gate};
+    ghost use Rattle.gate_engine.specs.Kept.{Kept};
+
+    ghost Value = { Gate P C E };
+
+    ghost view = { λ gate. record { held = gate.engine; plant = gate.plant; clock = gate.clock; entropy = gate.entropy } };
+
+    ghost invariant = { λ gate. Kept gate.engine (P.stops gate.plant) };
+}
+
+impl<P: Plant, C: Clock, E: Entropy> Held<P, C, E> {
+    /// Starts an engine over what the plant's disk holds. Where none starts, what was handed in comes back.
+    pub fn start(
+        alloc: Global,
+        mut plant: P,
+        mut clock: C,
+        entropy: E,
+        settings: &[u8],
+    ) -> Result<Held<P, C, E>, (P, C, E, StartFault)>
+        requires settings { settings.now ≡ [] }
+        // Where the plant tells what a stop leaves, a gate left it so.
+        requires kept { (before : HeldValue) × IsSound before × Kept before (P.stops plant) }
+        ensures settled { IfOk result (λ gate. gate.held.loose ≡ None) }
+        ensures journal { IfOk result (λ gate. ForSome (P.told plant).disk.bytes (λ bytes. IsJournal (payloads_of gate.held.history) bytes)) }
+        ensures found { IfOk result (λ gate. ForSome (P.told plant).disk.bytes (λ bytes. (before : HeldValue) → IsSound before → Kept before (P.stops plant)
+            → Settles before gate.held.history)) }
+        ensures stays { IfOk result (λ gate. Stays (P.stops plant) (P.stops gate.plant)) }
+        ensures refused { IfErr result (λ parts. ForSome (P.told plant).disk.bytes (λ bytes. IsOutside parts.3)) }
+        ensures disk { IfErr result (λ parts. parts.3 ≡ StartFault.Disk → Rose (P.told plant).disk.faults (P.told parts.0).disk.faults) }
+        ensures left { IfErr result (λ parts. Stays (P.stops plant) (P.stops parts.0)) }
+    {
+        match Engine::start(alloc, &mut plant, &mut clock, settings) {
+            Ok(engine) => Ok(Held {
+                engine,
+                plant,
+                clock,
+                entropy,
+            }),
+            Err(fault) => Err((plant, clock, entropy, fault)),
+        }
+    }
+
+    /// Answers one command.
+    pub fn ask(&mut self, caller: &Caller, command: &Command) -> Said
+        requires caller { IsCaller caller.now }
+        requires command { IsCommand command.now }
+        ensures step { Step (state_of self.old.held (P.told self.old.plant) (C.told self.old.clock) (E.told self.old.entropy)) caller.now command.now result.reply
+            (state_of self.new.held (P.told self.new.plant) (C.told self.new.clock) (E.told self.new.entropy)) }
+        // At every moment since the start recovery finds a legal history that begins with the old one, or this and what was loose,
+        // and in which each body that the signer was sent has an entry of its own.
+        ensures stops { KeepsLegal (Unit {0}) self.old.held self.new.held (P.stops self.old.plant) (P.stops self.new.plant) }
+        ensures wrote { Wrote self.old.held caller.now command.now result.reply self.new.held result.wrote }
+        // A disk that tells its bytes is never told as another journal.
+        ensures good { (at : ℕ) → result.reply ≡ Reply.JournalBad at → (P.told self.old.plant).disk.bytes ≡ None }
+    {
+        self.engine.ask_once(
+            &mut self.plant,
+            &mut self.clock,
+            &mut self.entropy,
+            caller,
+            command,
+        )
+    }
+
+    /// The length of the history, a loose entry left out.
+    pub fn count(&self) -> u64
+        ensures { result ≡ length self.now.held.history }
+    {
+        self.engine.count()
+    }
+
+    /// The engine and what it stands over.
+    pub fn into_parts(self) -> (Engine, P, C, E)
+        ensures engine { result.0 ≡ self.held }
+        ensures plant { result.1 ≡ self.plant }
+        ensures clock { result.2 ≡ self.clock }
+        ensures entropy { result.3 ≡ self.entropy }
+        ensures kept { Kept result.0 (P.stops result.1) }
+    {
+        let Held {
+            engine,
+            plant,
+            clock,
+            entropy,
+        } = self;
+        (engine, plant, clock, entropy)
+    }
+}
