@@ -3,35 +3,41 @@ use Rattle.std.proofs.Common.{◌≡◌, ℕ, ◌≤◌, inl, inr, List, [], ◌
 use Rattle.std.specs.Option.{ForSome}
 use Rattle.plant.specs.Causes.{Rose}
 use Rattle.plant.specs.Plant.{SignerTold, PlantTold}
+use Rattle.plant.specs.Stops.{Stops}
+use Rattle.plant.specs.Joining.{Stays}
 use Rattle.plant.specs.Clock.{ClockTold}
 use Rattle.plant.specs.Entropy.{EntropyTold}
 use Rattle.plant.specs.Stream.{SourceTold, SinkTold}
-use Rattle.plain_journal.specs.Journal.{StandsFor}
-use Rattle.gate_machine.specs.History.{Legal}
+use Rattle.journal_core.specs.Journal.{IsJournal}
+use Rattle.gate_machine.specs.History.{payloads_of, Legal}
 use Rattle.gate_machine.specs.Sends.{HasOneBodyEach}
 use Rattle.gate_machine.specs.Serials.{HasOneOrderEach}
-use Rattle.gate_machine.specs.Move.{Held, Extends}
+use Rattle.gate_machine.specs.Move.{Held, IsSound, Settles, Extends}
 use Rattle.gate_machine.specs.Step.{State, Item, Handles, Steps, Counted, IsRecorded}
 use Rattle.gate_engine.specs.declared.fault.StartFault.{StartFault}
 use Rattle.gate_engine.specs.declared.fault.StartFault.TheVariants as starts
-use Rattle.gate_engine.specs.Engine.{payloads_of, StandsForPlant, RefusesStart, state_of}
+use Rattle.gate_engine.specs.Engine.{RefusesStart, IsOutside, state_of}
+use Rattle.gate_engine.specs.Kept.{Stands, IsSentOf, Kept}
 use Rattle.gate_server.specs.declared.status.Status.{Status}
 use Rattle.gate_server.specs.declared.status.Status.TheVariants as statuses
 use Rattle.gate_server.specs.Session.{Talk, talk_of, begun, Rests, BreaksOff, Ends, Ended}
-use Rattle.gate_server.specs.Run.{outside_of, IsStartStatus, HoldsSession}
+use Rattle.gate_server.specs.Run.{Outside, outside_of, IsStartStatus, HoldsSession}
 
-pub refused_of : (plant plant' : PlantTold) (clock : ClockTold) (entropy : EntropyTold) (source : SourceTold) (sink : SinkTold) (fault : StartFault) (status : Status)
-    → IsStartStatus fault status → ForSome plant.disk.bytes (λ bytes. RefusesStart fault bytes)
-    → (fault ≡ starts.Disk → Rose plant.disk.faults plant'.disk.faults) → plant'.disk.bytes ≡ plant.disk.bytes → plant'.signer ≡ plant.signer
-    → HoldsSession (outside_of plant clock entropy source sink) (outside_of plant' clock entropy source sink) status
-refused_of plant plant' clock entropy source sink fault status told refused cause bytes signer =
+pub refused_of : (plant plant' : PlantTold) (stops stops' : Stops) (clock : ClockTold) (entropy : EntropyTold) (source : SourceTold) (sink : SinkTold) (fault : StartFault)
+    (status : Status) → IsStartStatus fault status → ForSome plant.disk.bytes (λ bytes. RefusesStart fault bytes)
+    → ForSome plant.disk.bytes (λ bytes. (found : Held) → IsSound found → Stands found stops → IsOutside fault)
+    → (fault ≡ starts.Disk → Rose plant.disk.faults plant'.disk.faults) → plant'.disk.bytes ≡ plant.disk.bytes → plant'.signer ≡ plant.signer → Stays stops stops'
+    → HoldsSession (outside_of plant stops clock entropy source sink) (outside_of plant' stops' clock entropy source sink) status
+refused_of plant plant' stops stops' clock entropy source sink fault status told refused good cause bytes signer stays =
     inl (record {
       fault = fault;
       told = told;
       refused = refused;
+      good = good;
       cause = cause;
       bytes = bytes;
       signer = signer;
+      stays = stays;
       clock = refl;
       entropy = refl;
       source = refl;
@@ -87,22 +93,34 @@ module _ (steps_more : (old mid new : State) (items : List Item) (item : Item) �
     (steps_counted : (old : State) (items : List Item) (new : State) → Steps old items new → Counted old items new)
     (steps_settled : (old : State) (items : List Item) (new : State) → Steps old items new → old.held.loose ≡ None → (Rose old.disk_faults new.disk_faults → ⊥)
     → new.held.loose ≡ None) where
-  pub session_of : (plant mounted plant' : PlantTold) (clock clock' : ClockTold) (entropy entropy' : EntropyTold) (source source' : SourceTold) (sink sink' : SinkTold)
-      (status : Status) (before after : Held) → before.loose ≡ None → Legal before.history → StandsForPlant before mounted → mounted.disk.bytes ≡ plant.disk.bytes
-      → plant.disk.faults ≤ mounted.disk.faults → mounted.signer ≡ plant.signer
-      → Ended status (talk_of before mounted clock entropy begun source sink) after plant' clock' entropy' source' sink' → StandsForPlant after plant'
-      → Legal after.history → HasOneBodyEach after.history → HasOneOrderEach after.history
-      → HoldsSession (outside_of plant clock entropy source sink) (outside_of plant' clock' entropy' source' sink') status
-  session_of plant mounted plant' clock clock' entropy entropy' source source' sink sink' status before after settled legal stood bytes later signer ended stands legal_after one_body one_order =
-      let first = state_of before mounted clock entropy in
-      let last = state_of after plant' clock' entropy' in
-      let all = all_steps steps_more status first ended.last (talk_of after plant' clock' entropy' ended.stream source' sink') ended.talked.items ended.talked.steps ended.ends in
+  pub ended_extends : (old new : Outside) (mounted : PlantTold) (status : Status) (before after : Held)
+      → Ended status (talk_of before mounted old.clock old.entropy begun old.source old.sink) after new.plant new.clock new.entropy new.source new.sink
+      → Extends before.history after.history
+  ended_extends old new mounted status before after ended =
+      let first = state_of before mounted old.clock old.entropy in
+      let all = all_steps steps_more status first ended.last (talk_of after new.plant new.clock new.entropy ended.stream new.source new.sink) ended.talked.items
+      ended.talked.steps ended.ends in
+      steps_extend first (ended.talked.items ++ all.broken) (state_of after new.plant new.clock new.entropy) all.steps
+
+  pub session_of : (old new : Outside) (mounted : PlantTold) (status : Status) (before after : Held) → before.loose ≡ None → Legal before.history
+      → ForSome old.plant.disk.bytes (λ bytes. IsJournal (payloads_of before.history) bytes)
+      → ForSome old.plant.disk.bytes (λ bytes. (found : Held) → IsSound found → Stands found old.stops → Settles found before.history)
+      → old.plant.disk.faults ≤ mounted.disk.faults → mounted.signer ≡ old.plant.signer
+      → Ended status (talk_of before mounted old.clock old.entropy begun old.source old.sink) after new.plant new.clock new.entropy new.source new.sink
+      → Legal after.history → HasOneBodyEach after.history → HasOneOrderEach after.history → IsSound after → Stands after new.stops
+      → ((found : Held) → IsSound found → Kept found old.stops → IsSentOf after.history new.stops) → HoldsSession old new status
+  session_of old new mounted status before after settled legal stood settles later signer ended legal_after one_body one_order sound stands recorded_stops =
+      let first = state_of before mounted old.clock old.entropy in
+      let last = state_of after new.plant new.clock new.entropy in
+      let all = all_steps steps_more status first ended.last (talk_of after new.plant new.clock new.entropy ended.stream new.source new.sink) ended.talked.items
+      ended.talked.steps ended.ends in
       let items = ended.talked.items ++ all.broken in
       inr (record {
         before = before;
         settled = settled;
         legal = legal;
-        stood = subst (λ b. StandsFor (payloads_of before.history) b) bytes (stood settled);
+        stood = stood;
+        settles = settles;
         mounted = mounted;
         later = later;
         signer = signer;
@@ -114,10 +132,12 @@ module _ (steps_more : (old mid new : State) (items : List Item) (item : Item) �
         legal_after = legal_after;
         extends = steps_extend first items last all.steps;
         counted = steps_counted first items last all.steps;
-        recorded = λ was. steps_recorded first items last all.steps
-            (subst (λ (s : SignerTold). IsRecorded s before.history) (sym signer) was);
+        recorded = λ was. steps_recorded first items last all.steps (subst (λ (s : SignerTold). IsRecorded s before.history) (sym signer) was);
         one_body = one_body;
         one_order = one_order;
+        sound = sound;
         stands = stands;
-        kept = λ same. stands (steps_settled first items last all.steps settled (λ rose. same (rose_behind _ _ _ later rose)));
+        recorded_stops = recorded_stops;
+        settled_after = λ same. steps_settled first items last all.steps settled
+            (λ rose. same (rose_behind old.plant.disk.faults mounted.disk.faults new.plant.disk.faults later rose));
       })

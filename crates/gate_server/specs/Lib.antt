@@ -1,3 +1,4 @@
+pub mod Headline
 pub mod Session
 pub mod Run
 pub mod Exit

@@ -4,19 +4,24 @@ use Rattle.std.specs.Option.{ForSome, option_map}
 use Rattle.std.specs.Io.KnownBytes.{IsAtEnd}
 use Rattle.plant.specs.Causes.{Rose}
 use Rattle.plant.specs.Plant.{PlantTold}
+use Rattle.plant.specs.Stops.{Stops}
+use Rattle.plant.specs.Joining.{Stays}
 use Rattle.plant.specs.Clock.{ClockTold, Reads}
 use Rattle.plant.specs.Entropy.{EntropyTold}
 use Rattle.plant.specs.Stream.{SourceTold, SinkTold}
-use Rattle.plain_journal.specs.Journal.{StandsFor, journal_of}
-use Rattle.gate_machine.specs.History.{Legal}
+use Rattle.journal_core.specs.Journal.{IsJournal, begun_of}
+use Rattle.gate_entries.specs.Spelling.{entry_bytes}
+use Rattle.gate_entries.specs.Command.{settings_entry}
+use Rattle.gate_machine.specs.History.{payloads_of, Legal}
 use Rattle.gate_machine.specs.Answer.{IsInRange, IsOutOfRange}
 use Rattle.gate_machine.specs.Sends.{HasOneBodyEach}
 use Rattle.gate_machine.specs.Serials.{HasOneOrderEach}
-use Rattle.gate_machine.specs.Move.{Held, Extends}
+use Rattle.gate_machine.specs.Move.{Held, IsSound, Settles, Extends}
 use Rattle.gate_machine.specs.Step.{Item, Steps, Counted, IsRecorded}
 use Rattle.gate_engine.specs.declared.fault.StartFault.{StartFault}
 use Rattle.gate_engine.specs.declared.fault.StartFault.TheVariants as starts
-use Rattle.gate_engine.specs.Engine.{payloads_of, first_history, StandsForPlant, RefusesStart, state_of}
+use Rattle.gate_engine.specs.Engine.{first_history, held_as, RefusesStart, IsOutside, state_of}
+use Rattle.gate_engine.specs.Kept.{Stands, IsSentOf, Kept}
 use Rattle.gate_server.specs.declared.running.Word.{Word}
 use Rattle.gate_server.specs.declared.running.Word.TheVariants as asked
 use Rattle.gate_server.specs.declared.status.Status.{Status}
@@ -30,15 +35,26 @@ IsWord words asked.Session = words ≡ codes "session" ∷ []
 IsWord words asked.Other = (words ≢ codes "begin" ∷ []) × (words ≢ codes "session" ∷ [])
 
 -- the outside, but for the settings
-pub record Outside : Type 0 where
+pub record Outside : Type 1 where
   pub plant : PlantTold
+  pub stops : Stops
   pub clock : ClockTold
   pub entropy : EntropyTold
   pub source : SourceTold
   pub sink : SinkTold
 
-abbrev pub outside_of : PlantTold → ClockTold → EntropyTold → SourceTold → SinkTold → Outside
-outside_of plant clock entropy source sink = record { plant = plant; clock = clock; entropy = entropy; source = source; sink = sink }
+abbrev pub outside_of : PlantTold → Stops → ClockTold → EntropyTold → SourceTold → SinkTold → Outside
+outside_of plant stops clock entropy source sink =
+    record { plant = plant; stops = stops; clock = clock; entropy = entropy; source = source; sink = sink }
+
+-- nothing of it changed, and a stop leaves what it could leave before
+pub record Untouched (old new : Outside) : Type 0 where
+  pub plant : new.plant ≡ old.plant
+  pub stays : Stays old.stops new.stops
+  pub clock : new.clock ≡ old.clock
+  pub entropy : new.entropy ≡ old.entropy
+  pub source : new.source ≡ old.source
+  pub sink : new.sink ≡ old.sink
 
 -- the settings could not be read, or they aren't empty
 abbrev pub RefusesSettings : SourceTold → SourceTold → Status → Type 0
@@ -57,21 +73,26 @@ pub record Refused (old new : Outside) (status : Status) : Type 0 where
   pub fault : StartFault
   pub told : IsStartStatus fault status
   pub refused : ForSome old.plant.disk.bytes (λ bytes. RefusesStart fault bytes)
+  -- over what a gate left it is the disk or the memory
+  pub good : ForSome old.plant.disk.bytes (λ bytes. (found : Held) → IsSound found → Stands found old.stops → IsOutside fault)
   pub cause : fault ≡ starts.Disk → Rose old.plant.disk.faults new.plant.disk.faults
   pub bytes : new.plant.disk.bytes ≡ old.plant.disk.bytes
   pub signer : new.plant.signer ≡ old.plant.signer
+  pub stays : Stays old.stops new.stops
   pub clock : new.clock ≡ old.clock
   pub entropy : new.entropy ≡ old.entropy
   pub source : new.source ≡ old.source
   pub sink : new.sink ≡ old.sink
 
--- the disk held the journal of a legal history; messages were taken, asked and answered; the disk holds the journal of the history
--- that their steps lead to, where its count of faults didn't rise
+-- the disk held the journal of a legal history; messages were taken, asked and answered; recovery then finds the history that their
+-- steps lead to, or this and the entry whose commit failed
 pub record Session (old new : Outside) (status : Status) : Type 0 where
   pub before : Held
   pub settled : before.loose ≡ None
   pub legal : Legal before.history
-  pub stood : StandsFor (payloads_of before.history) old.plant.disk.bytes
+  pub stood : ForSome old.plant.disk.bytes (λ bytes. IsJournal (payloads_of before.history) bytes)
+  -- over what a gate left it is that gate's history, or this and what was loose
+  pub settles : ForSome old.plant.disk.bytes (λ bytes. (found : Held) → IsSound found → Stands found old.stops → Settles found before.history)
   pub mounted : PlantTold
   pub later : old.plant.disk.faults ≤ mounted.disk.faults
   pub signer : mounted.signer ≡ old.plant.signer
@@ -92,62 +113,80 @@ pub record Session (old new : Outside) (status : Status) : Type 0 where
   pub one_body : HasOneBodyEach after.history
   -- two bodies with the same serial number were sent for the same order
   pub one_order : HasOneOrderEach after.history
-  pub stands : StandsForPlant after new.plant
-  pub kept : (Rose old.plant.disk.faults new.plant.disk.faults → ⊥) → StandsFor (payloads_of after.history) new.plant.disk.bytes
+  pub sound : IsSound after
+  -- whatever a stop then leaves
+  pub stands : Stands after new.stops
+  pub recorded_stops : (found : Held) → IsSound found → Kept found old.stops → IsSentOf after.history new.stops
+  pub settled_after : (Rose old.plant.disk.faults new.plant.disk.faults → ⊥) → after.loose ≡ None
 
 abbrev pub HoldsSession : Outside → Outside → Status → Type 0
 HoldsSession old new status = Refused old new status ⊎ Session old new status
 
 abbrev pub RunsSession : SourceTold → SourceTold → Outside → Outside → Status → Type 0
 RunsSession conf conf' old new status =
-    (RefusesSettings conf conf' status × (new ≡ old)) ⊎ (IsAtEnd conf.left × HoldsSession old new status)
+    (RefusesSettings conf conf' status × Untouched old new) ⊎ (IsAtEnd conf.left × HoldsSession old new status)
 
 -- a journal was begun on an empty disk: it holds the settings of this moment
-pub record Began (reading : ℕ) (plant plant' : PlantTold) : Type 0 where
+pub record Began (reading : ℕ) (plant plant' : PlantTold) (stops' : Stops) : Type 0 where
   pub empty : ForSome plant.disk.bytes (λ bytes. bytes ≡ [])
-  pub bytes : plant'.disk.bytes ≡ option_map (λ _. journal_of (payloads_of (first_history (record { 0 = reading })))) plant.disk.bytes
+  pub bytes : plant'.disk.bytes ≡ option_map (λ _. begun_of (entry_bytes (settings_entry 1 (record { 0 = reading }) []))) plant.disk.bytes
   pub legal : Legal (first_history (record { 0 = reading }))
+  -- where the signer was sent nothing, recovery then finds the history of these settings, whatever a stop leaves
+  pub kept : plant.signer.sent ≡ Some [] → Kept (held_as (first_history (record { 0 = reading })) None) stops'
+
+-- the bytes stay as they were, and so does what a stop may leave
+pub record KeepsDisk (plant plant' : PlantTold) (stops stops' : Stops) : Type 0 where
+  pub bytes : plant'.disk.bytes ≡ plant.disk.bytes
+  pub stays : Stays stops stops'
 
 -- the disk isn't empty, and stays as it was
-pub record Occupied (count : ℕ) (plant plant' : PlantTold) : Type 0 where
+pub record Occupied (count : ℕ) (plant plant' : PlantTold) (stops stops' : Stops) : Type 0 where
   pub some : 1 ≤ count
-  pub size : ForSome plant.disk.bytes (λ bytes. (length bytes ≡ count) × (plant'.disk.bytes ≡ plant.disk.bytes))
+  pub size : ForSome plant.disk.bytes (λ bytes. length bytes ≡ count)
+  pub keeps : ForSome plant.disk.bytes (λ bytes. KeepsDisk plant plant' stops stops')
 
-abbrev pub Begins : ℕ → PlantTold → PlantTold → Status → Type 0
-Begins reading plant plant' statuses.Ok = Began reading plant plant'
-Begins reading plant plant' (statuses.NotEmpty count) = Occupied count plant plant'
-Begins reading plant plant' statuses.DiskFault = Rose plant.disk.faults plant'.disk.faults
-Begins reading plant plant' statuses.NoMemory = plant'.disk.bytes ≡ plant.disk.bytes
-Begins reading plant plant' statuses.NotBuilt = ⊥
-Begins reading plant plant' (statuses.ReadFault settings) = ⊥
-Begins reading plant plant' statuses.WriteFault = ⊥
-Begins reading plant plant' statuses.StreamLong = ⊥
-Begins reading plant plant' statuses.NotBegun = ⊥
-Begins reading plant plant' (statuses.JournalBad at) = ⊥
-Begins reading plant plant' statuses.Usage = ⊥
-Begins reading plant plant' statuses.ClockFault = ⊥
-Begins reading plant plant' (statuses.ClockRange given) = ⊥
+-- the disk failed. One that isn't empty stays as it was
+pub record FailsToBegin (plant plant' : PlantTold) (stops stops' : Stops) : Type 0 where
+  pub cause : Rose plant.disk.faults plant'.disk.faults
+  pub keeps : ForSome plant.disk.bytes (λ bytes. bytes ≢ [] → KeepsDisk plant plant' stops stops')
+
+abbrev pub Begins : ℕ → PlantTold → PlantTold → Stops → Stops → Status → Type 0
+Begins reading plant plant' stops stops' statuses.Ok = Began reading plant plant' stops'
+Begins reading plant plant' stops stops' (statuses.NotEmpty count) = Occupied count plant plant' stops stops'
+Begins reading plant plant' stops stops' statuses.DiskFault = FailsToBegin plant plant' stops stops'
+Begins reading plant plant' stops stops' statuses.NoMemory = KeepsDisk plant plant' stops stops'
+Begins reading plant plant' stops stops' statuses.NotBuilt = ⊥
+Begins reading plant plant' stops stops' (statuses.ReadFault settings) = ⊥
+Begins reading plant plant' stops stops' statuses.WriteFault = ⊥
+Begins reading plant plant' stops stops' statuses.StreamLong = ⊥
+Begins reading plant plant' stops stops' statuses.NotBegun = ⊥
+Begins reading plant plant' stops stops' (statuses.JournalBad at) = ⊥
+Begins reading plant plant' stops stops' statuses.Usage = ⊥
+Begins reading plant plant' stops stops' statuses.ClockFault = ⊥
+Begins reading plant plant' stops stops' (statuses.ClockRange given) = ⊥
 
 -- a journal is begun at the reading that the clock gave
-pub record BeginsRead (plant plant' : PlantTold) (clock clock' : ClockTold) (status : Status) : Type 0 where
+pub record BeginsRead (plant plant' : PlantTold) (stops stops' : Stops) (clock clock' : ClockTold) (status : Status) : Type 0 where
   pub reading : ℕ
   pub reads : Reads clock clock' (Some reading)
-  pub does : ((status ≡ statuses.ClockRange reading) × IsOutOfRange reading × (plant' ≡ plant)) ⊎ (IsInRange reading × Begins reading plant plant' status)
+  pub does : ((status ≡ statuses.ClockRange reading) × IsOutOfRange reading × (plant' ≡ plant) × Stays stops stops')
+      ⊎ (IsInRange reading × Begins reading plant plant' stops stops' status)
 
-abbrev pub BeginsJournal : PlantTold → PlantTold → ClockTold → ClockTold → Status → Type 0
-BeginsJournal plant plant' clock clock' status =
-    ((status ≡ statuses.ClockFault) × Reads clock clock' None × (plant' ≡ plant)) ⊎ BeginsRead plant plant' clock clock' status
+abbrev pub BeginsJournal : PlantTold → PlantTold → Stops → Stops → ClockTold → ClockTold → Status → Type 0
+BeginsJournal plant plant' stops stops' clock clock' status =
+    ((status ≡ statuses.ClockFault) × Reads clock clock' None × (plant' ≡ plant) × Stays stops stops')
+    ⊎ BeginsRead plant plant' stops stops' clock clock' status
 
 pub record RunsBegin (conf conf' : SourceTold) (old new : Outside) (status : Status) : Type 0 where
   pub entropy : new.entropy ≡ old.entropy
   pub source : new.source ≡ old.source
   pub sink : new.sink ≡ old.sink
   pub signer : new.plant.signer ≡ old.plant.signer
-  pub does : (RefusesSettings conf conf' status × (new.plant ≡ old.plant) × (new.clock ≡ old.clock))
-      ⊎ (IsAtEnd conf.left × BeginsJournal old.plant new.plant old.clock new.clock status)
+  pub does : (RefusesSettings conf conf' status × (new.plant ≡ old.plant) × Stays old.stops new.stops × (new.clock ≡ old.clock))
+      ⊎ (IsAtEnd conf.left × BeginsJournal old.plant new.plant old.stops new.stops old.clock new.clock status)
 
 -- what a run does
 abbrev pub Runs : Word → SourceTold → SourceTold → Outside → Outside → Status → Type 0
 Runs asked.Begin conf conf' old new status = RunsBegin conf conf' old new status
 Runs asked.Session conf conf' old new status = RunsSession conf conf' old new status
-Runs asked.Other conf conf' old new status = (status ≡ statuses.Usage) × (new ≡ old)
+Runs asked.Other conf conf' old new status = (status ≡ statuses.Usage) × Untouched old new

@@ -2,7 +2,9 @@
 
 use crate::running::run;
 use crate::status::Status;
-use crate::tests::{BEGUN, MOMENT, ORDER, ORDERED, PLACED, word_alone};
+use crate::tests::{
+    BEGUN, CLOSED, HEAD, MOMENT, ORDER, PLACED, Pieces, SETTINGS, WITH_ORDER, joined, word_alone,
+};
 use gate_base::{Bytes, Sequence};
 use plant::{Calls, Fail, ListClock, ListEntropy, MemoryPlant, MemorySink, MemorySource};
 use std::alloc::Global;
@@ -52,17 +54,11 @@ struct Outside {
     sink: MemorySink,
 }
 
-/// How `begin` and the session end, the replies to both messages, and how many bytes the disk holds.
-type Left = (Status, Status, &'static [u8], &'static [u8], usize);
+/// How `begin` and the session end, the replies to both messages, and what the disk holds.
+type Left = (Status, Status, &'static [u8], &'static [u8], Pieces);
 
 fn one_call(rt: &impl Abort, alloc: Global, call: u64) -> Calls {
     Sequence::from_slice(alloc, &[call]).expect(rt, "memory")
-}
-
-fn joined(rt: &impl Abort, alloc: Global, first: &[u8], second: &[u8]) -> Vec<u8> {
-    let mut both = first.to_vec(alloc).expect(rt, "memory");
-    both.extend_from_slice(second).expect(rt, "memory");
-    both
 }
 
 fn failing_plant(rt: &impl Abort, alloc: Global, call: u64) -> MemoryPlant {
@@ -85,7 +81,7 @@ fn failing_outside(
         Put(call) => (0, 0, 0, call),
     };
     let readings = Sequence::from_slice(alloc, readings).expect(rt, "memory");
-    let messages = Bytes::from_vec(joined(rt, alloc, ORDER, ORDER));
+    let messages = Bytes::from_vec(joined(rt, alloc, &[ORDER, ORDER]));
     Outside {
         settings: MemorySource::new(Bytes::new(alloc), one_call(rt, alloc, settings)),
         plant: failing_plant(rt, alloc, disk),
@@ -112,14 +108,14 @@ fn status_of(rt: &impl Abort, alloc: Global, outside: &mut Outside, word: &str) 
 
 /// A first run over such an outside leaves exactly this, and nothing was sent to the signer.
 fn leaves(rt: &impl Abort, alloc: Global, failing: Failing, readings: &[Option<u64>], left: Left) {
-    let (begun, ended, first, second, size) = left;
+    let (begun, ended, first, second, disk) = left;
     let mut outside = failing_outside(rt, alloc, failing, readings);
     assert_eq!(rt; status_of(rt, alloc, &mut outside, "begin"), begun);
     assert_eq!(rt; status_of(rt, alloc, &mut outside, "session"), ended);
-    let replies = joined(rt, alloc, first, second);
+    let replies = joined(rt, alloc, &[first, second]);
     assert_eq!(rt; outside.sink.bytes(), replies.as_slice());
-    let journal = joined(rt, alloc, BEGUN, ORDERED);
-    assert_eq!(rt; Some(outside.plant.disk()), journal.get(..size));
+    let disk = joined(rt, alloc, disk);
+    assert_eq!(rt; outside.plant.disk(), disk.as_slice());
     assert_eq!(rt; outside.plant.sent().len(), 0);
     assert_eq!(rt; outside.plant.short(), 0);
 }
@@ -142,103 +138,152 @@ const TOO_LATE_TO_BEGIN: Status = Status::ClockRange {
     reading: LAST_MOMENT + 1,
 };
 
-const NOT_BEGUN: Left = (Status::DiskFault, Status::NotBegun, NO_REPLY, NO_REPLY, 0);
+const NOT_BEGUN: Left = (Status::DiskFault, Status::NotBegun, NO_REPLY, NO_REPLY, &[]);
 
-const UNMOUNTED: Left = (Status::Ok, Status::DiskFault, NO_REPLY, NO_REPLY, 43);
+/// No entry stands in the file.
+const NO_ENTRY: Status = Status::JournalBad { at: 16 };
+
+/// The head was written, and a closed gate.
+const BLANK: Left = (
+    Status::DiskFault,
+    NO_ENTRY,
+    NO_REPLY,
+    NO_REPLY,
+    &[HEAD, CLOSED],
+);
+
+/// And the group behind it.
+const UNOPENED: Left = (
+    Status::DiskFault,
+    NO_ENTRY,
+    NO_REPLY,
+    NO_REPLY,
+    &[HEAD, CLOSED, SETTINGS, CLOSED],
+);
+
+const UNMOUNTED: Left = (Status::Ok, Status::DiskFault, NO_REPLY, NO_REPLY, BEGUN);
 
 /// The second message settles what became of the first one's order.
-const SETTLED: Left = (Status::Ok, Status::Ok, DISK_FAULT, PLACED, 211);
+const SETTLED: Left = (Status::Ok, Status::Ok, DISK_FAULT, PLACED, WITH_ORDER);
 
-const WELL: Left = (Status::Ok, Status::Ok, PLACED, PLACED, 211);
+const WELL: Left = (Status::Ok, Status::Ok, PLACED, PLACED, WITH_ORDER);
 
 /// Which call fails, the readings of the clock, and what is left.
 const FAULTS: &[(Failing, &[Option<u64>], Left)] = &[
-    // `begin`: length, write, sync.
+    // `begin`: the length, and a write and a sync of the head, of the group, and of its gate.
     (Disk(1), &[NOW], NOT_BEGUN),
     (Disk(2), &[NOW], NOT_BEGUN),
+    (Disk(3), &[NOW], BLANK),
+    (Disk(4), &[NOW], BLANK),
+    (Disk(5), &[NOW], UNOPENED),
+    (Disk(6), &[NOW], UNOPENED),
     (
-        Disk(3),
+        Disk(7),
         &[NOW],
-        (Status::DiskFault, Status::Ok, PLACED, PLACED, 211),
+        (Status::DiskFault, Status::Ok, PLACED, PLACED, WITH_ORDER),
     ),
-    // The mount: sync, length, the head, the records.
-    (Disk(4), &[NOW], UNMOUNTED),
-    (Disk(5), &[NOW], UNMOUNTED),
-    (Disk(6), &[NOW], UNMOUNTED),
-    (Disk(7), &[NOW], UNMOUNTED),
-    // The order: write, sync.
-    (Disk(8), &[NOW], SETTLED),
-    (Disk(9), &[NOW], SETTLED),
-    // There is no tenth call.
-    (Disk(10), &[NOW], WELL),
+    // The mount: a sync, the length, the head, the groups.
+    (Disk(8), &[NOW], UNMOUNTED),
+    (Disk(9), &[NOW], UNMOUNTED),
+    (Disk(10), &[NOW], UNMOUNTED),
+    (Disk(11), &[NOW], UNMOUNTED),
+    // The order: a write and a sync of the group, and of its gate.
+    (Disk(12), &[NOW], SETTLED),
+    (Disk(13), &[NOW], SETTLED),
+    (Disk(14), &[NOW], SETTLED),
+    (Disk(15), &[NOW], SETTLED),
+    // There are no more calls.
+    (Disk(16), &[NOW], WELL),
     // The settings: once for each word.
     (
         Settings(1),
         &[NOW],
-        (UNREAD, Status::NotBegun, NO_REPLY, NO_REPLY, 0),
+        (UNREAD, Status::NotBegun, NO_REPLY, NO_REPLY, &[]),
     ),
     (
         Settings(2),
         &[NOW],
-        (Status::Ok, UNREAD, NO_REPLY, NO_REPLY, 43),
+        (Status::Ok, UNREAD, NO_REPLY, NO_REPLY, BEGUN),
     ),
     (Settings(3), &[NOW], WELL),
     // The messages: all of their bytes, and the end.
     (
         Take(1),
         &[NOW],
-        (Status::Ok, CUT_OFF, NO_REPLY, NO_REPLY, 43),
+        (Status::Ok, CUT_OFF, NO_REPLY, NO_REPLY, BEGUN),
     ),
-    (Take(2), &[NOW], (Status::Ok, CUT_OFF, PLACED, PLACED, 211)),
+    (
+        Take(2),
+        &[NOW],
+        (Status::Ok, CUT_OFF, PLACED, PLACED, WITH_ORDER),
+    ),
     (Take(3), &[NOW], WELL),
     // The replies: one for each message.
     (
         Put(1),
         &[NOW],
-        (Status::Ok, Status::WriteFault, NO_REPLY, NO_REPLY, 211),
+        (
+            Status::Ok,
+            Status::WriteFault,
+            NO_REPLY,
+            NO_REPLY,
+            WITH_ORDER,
+        ),
     ),
     (
         Put(2),
         &[NOW],
-        (Status::Ok, Status::WriteFault, PLACED, NO_REPLY, 211),
+        (Status::Ok, Status::WriteFault, PLACED, NO_REPLY, WITH_ORDER),
     ),
     (Put(3), &[NOW], WELL),
     // The clock: a reading fails.
     (
         Nothing,
         &[None, NOW, NOW],
-        (Status::ClockFault, Status::NotBegun, NO_REPLY, NO_REPLY, 0),
+        (
+            Status::ClockFault,
+            Status::NotBegun,
+            NO_REPLY,
+            NO_REPLY,
+            &[],
+        ),
     ),
     (
         Nothing,
         &[NOW, None, NOW],
-        (Status::Ok, Status::Ok, CLOCK_FAULT, PLACED, 211),
+        (Status::Ok, Status::Ok, CLOCK_FAULT, PLACED, WITH_ORDER),
     ),
     (
         Nothing,
         &[NOW, NOW, None],
-        (Status::Ok, Status::Ok, PLACED, CLOCK_FAULT, 211),
+        (Status::Ok, Status::Ok, PLACED, CLOCK_FAULT, WITH_ORDER),
     ),
     // A reading is out of range.
     (
         Nothing,
         &[EARLY, NOW, NOW],
-        (TOO_EARLY_TO_BEGIN, Status::NotBegun, NO_REPLY, NO_REPLY, 0),
+        (
+            TOO_EARLY_TO_BEGIN,
+            Status::NotBegun,
+            NO_REPLY,
+            NO_REPLY,
+            &[],
+        ),
     ),
     (
         Nothing,
         &[LATE, NOW, NOW],
-        (TOO_LATE_TO_BEGIN, Status::NotBegun, NO_REPLY, NO_REPLY, 0),
+        (TOO_LATE_TO_BEGIN, Status::NotBegun, NO_REPLY, NO_REPLY, &[]),
     ),
     (
         Nothing,
         &[NOW, EARLY, NOW],
-        (Status::Ok, Status::Ok, TOO_EARLY, PLACED, 211),
+        (Status::Ok, Status::Ok, TOO_EARLY, PLACED, WITH_ORDER),
     ),
     (
         Nothing,
         &[NOW, NOW, LATE],
-        (Status::Ok, Status::Ok, PLACED, TOO_LATE, 211),
+        (Status::Ok, Status::Ok, PLACED, TOO_LATE, WITH_ORDER),
     ),
     // A reading below the last moment: the moment stays.
     (

@@ -3,6 +3,7 @@
 
 #[cfg(test)]
 mod faults;
+mod law;
 mod opening;
 mod reasons;
 mod running;

@@ -1,6 +1,7 @@
 //! What is printed on standard error: the line `gate: STATUS`, and behind it, indented by two spaces, why.
 
 use crate::status::Status;
+use journal_core::FIRST_GATE;
 use plant::FileFault;
 use std::io::{self, ErrorKind};
 
@@ -10,6 +11,9 @@ pub struct Paths<'a> {
     pub journal: &'a str,
     pub settings: &'a str,
 }
+
+/// The length of a journal that was begun with empty settings.
+const BEGUN_LENGTH: u64 = 77;
 
 /// What is known of the cause beside the status.
 #[derive(Clone, Copy)]
@@ -115,6 +119,17 @@ fn tell_not_built(rt: &HostRuntime, path: &str, why: Why) -> io::Result<()> {
     }
 }
 
+fn tell_bad(rt: &HostRuntime, path: &str, at: u64) -> io::Result<()> {
+    eprintln!(rt; "  {path}: it is no legal journal from byte {at} on")?;
+    if at != FIRST_GATE {
+        return Ok(());
+    }
+    eprintln!(rt;
+        "  where it has at most {BEGUN_LENGTH} bytes, a begin was stopped: remove the file, and begin again"
+    )?;
+    eprintln!(rt; "  where it has more, it is damaged: keep it")
+}
+
 fn tell_rest(rt: &HostRuntime, path: &str, status: Status) -> io::Result<()> {
     match status {
         Status::NotBegun => eprintln!(rt;
@@ -125,9 +140,7 @@ fn tell_rest(rt: &HostRuntime, path: &str, status: Status) -> io::Result<()> {
                 "  {path}: it has {length} bytes, and a journal is begun in an empty or absent file"
             )
         }
-        Status::JournalBad { at } => eprintln!(rt;
-            "  {path}: it is no legal journal from byte {at} on"
-        ),
+        Status::JournalBad { at } => tell_bad(rt, path, at),
         Status::StreamLong => eprintln!(rt;
             "  standard input: 1073741824 bytes came without an end"
         ),

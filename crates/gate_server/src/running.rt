@@ -1,18 +1,24 @@
 //! The top call: all that the program does, over whatever outside it is given.
-ghost use Rattle.std.specs.Prelude.{◌≡◌, ◌≤◌, ◌⊎◌, length, map, string_bytes, IfSome};
+ghost use Rattle.std.specs.Prelude.{◌≡◌, ◌≢◌, ◌≤◌, ◌⊎◌, [], length, map, string_bytes, IfSome};
+ghost use Rattle.std.specs.Option.{ForSome};
 ghost use Rattle.std.specs.Io.KnownBytes.{IsAtEnd};
 ghost use Rattle.plant.specs.Causes.{Rose};
+ghost use Rattle.plant.specs.Joining.{Stays};
 ghost use Rattle.gate_server.specs.declared.running.Word.{Word as WordValue};
 ghost use Rattle.gate_machine.specs.Answer.{IsInRange};
+ghost use Rattle.gate_machine.specs.Move.{Held as HeldValue, IsSound};
+ghost use Rattle.gate_engine.specs.Kept.{Kept};
+ghost use Rattle.gate_server.specs.Headline.{JustifiesSince, IsLeftBehind};
 ghost use Rattle.gate_server.specs.Run.{IsWord, IsStartStatus, RefusesSettings, outside_of, HoldsSession, RunsSession, BeginsJournal, RunsBegin, Begins, Runs};
 
+use crate::law::what_a_run_keeps;
 use crate::session::answer_messages;
 use crate::status::Status;
 use gate_base::Moment;
 use gate_engine::{Engine, StartFault, begin};
 use gate_machine::what_steps_keep;
-use plain_journal::BeginFault;
-use plant::{Clock, ClockFault, Entropy, Plant, Sink, Source, TakeFault};
+use journal_core::BeginFault;
+use plant::{Clock, ClockFault, Entropy, Plant, Sink, Source, TakeFault, runs_join};
 use std::alloc::Global;
 
 /// The first and the last moment that a clock may give: 2025-09-15T00:00:00Z and 2099-12-31T23:59:59Z.
@@ -41,9 +47,18 @@ pub fn run<F: Source, P: Plant, C: Clock, E: Entropy, S: Source, K: Sink>(
 ) -> Status
     // What is left of the outside, and the status, are those of the words' meaning.
     ensures runs { (word : WordValue) → IsWord (map string_bytes words.now) word → Runs word (F.told conf.old) (F.told conf.new)
-        (outside_of (P.told plant.old) (C.told clock.old) (E.told entropy.old) (S.told source.old) (K.told sink.old))
-        (outside_of (P.told plant.new) (C.told clock.new) (E.told entropy.new) (S.told source.new) (K.told sink.new)) result }
+        (outside_of (P.told plant.old) (P.stops plant.old) (C.told clock.old) (E.told entropy.old) (S.told source.old) (K.told sink.old))
+        (outside_of (P.told plant.new) (P.stops plant.new) (C.told clock.new) (E.told entropy.new) (S.told source.new) (K.told sink.new)) result }
+    // From what a gate left, at every moment since then: whatever a stop leaves, recovery finds a legal history that begins with the
+    // gate's, and each body that the signer was sent has an entry of its own in it.
+    ensures headline { (before : HeldValue) → IsSound before → Kept before (P.stops plant.old) → ForSome (P.told plant.old).disk.bytes
+        (λ bytes. JustifiesSince (Unit {0}) before.history (P.stops plant.old) (P.stops plant.new)) }
+    // And the next run starts from what a gate left.
+    ensures left { (before : HeldValue) → IsSound before → Kept before (P.stops plant.old) → ForSome (P.told plant.old).disk.bytes
+        (λ bytes. IsLeftBehind before.history (P.stops plant.new)) }
 {
+    runs_join::<P>();
+    what_a_run_keeps::<P>();
     match read_words(words) {
         Word::Begin => run_begin(alloc, conf, plant, clock),
         Word::Session => run_session(alloc, conf, plant, clock, entropy, source, sink),
@@ -92,10 +107,13 @@ fn run_begin<F: Source, P: Plant, C: Clock>(
     plant: &mut P,
     clock: &mut C,
 ) -> Status
-    ensures does { (RefusesSettings (F.told conf.old) (F.told conf.new) result × (P.told plant.new ≡ P.told plant.old) × (C.told clock.new ≡ C.told clock.old))
-        ⊎ (IsAtEnd (F.told conf.old).left × BeginsJournal (P.told plant.old) (P.told plant.new) (C.told clock.old) (C.told clock.new) result) }
+    ensures does { (RefusesSettings (F.told conf.old) (F.told conf.new) result × (P.told plant.new ≡ P.told plant.old) × Stays (P.stops plant.old) (P.stops plant.new)
+        × (C.told clock.new ≡ C.told clock.old))
+        ⊎ (IsAtEnd (F.told conf.old).left × BeginsJournal (P.told plant.old) (P.told plant.new) (P.stops plant.old) (P.stops plant.new) (C.told clock.old) (C.told clock.new) result) }
+    ensures stays { ForSome (P.told plant.old).disk.bytes (λ bytes. bytes ≢ [] → Stays (P.stops plant.old) (P.stops plant.new)) }
     ensures signer { (P.told plant.new).signer ≡ (P.told plant.old).signer }
 {
+    runs_join::<P>();
     match read_settings(conf) {
         Settings::Empty => begin_journal(alloc, plant, clock),
         Settings::NotEmpty => Status::NotBuilt,
@@ -104,9 +122,11 @@ fn run_begin<F: Source, P: Plant, C: Clock>(
 }
 
 fn begin_journal<P: Plant, C: Clock>(alloc: Global, plant: &mut P, clock: &mut C) -> Status
-    ensures begins { BeginsJournal (P.told plant.old) (P.told plant.new) (C.told clock.old) (C.told clock.new) result }
+    ensures begins { BeginsJournal (P.told plant.old) (P.told plant.new) (P.stops plant.old) (P.stops plant.new) (C.told clock.old) (C.told clock.new) result }
+    ensures stays { ForSome (P.told plant.old).disk.bytes (λ bytes. bytes ≢ [] → Stays (P.stops plant.old) (P.stops plant.new)) }
     ensures signer { (P.told plant.new).signer ≡ (P.told plant.old).signer }
 {
+    runs_join::<P>();
     let reading = match clock.now() {
         Ok(reading) => reading,
         Err(ClockFault) => return Status::ClockFault,
@@ -119,7 +139,8 @@ fn begin_journal<P: Plant, C: Clock>(alloc: Global, plant: &mut P, clock: &mut C
 
 fn begin_at<P: Plant>(alloc: Global, plant: &mut P, reading: u64) -> Status
     requires { IsInRange reading }
-    ensures begins { Begins reading (P.told plant.old) (P.told plant.new) result }
+    ensures begins { Begins reading (P.told plant.old) (P.told plant.new) (P.stops plant.old) (P.stops plant.new) result }
+    ensures stays { ForSome (P.told plant.old).disk.bytes (λ bytes. bytes ≢ [] → Stays (P.stops plant.old) (P.stops plant.new)) }
     ensures signer { (P.told plant.new).signer ≡ (P.told plant.old).signer }
 {
     match begin(alloc, plant, Moment(reading)) {
@@ -140,9 +161,15 @@ fn run_session<F: Source, P: Plant, C: Clock, E: Entropy, S: Source, K: Sink>(
     sink: &mut K,
 ) -> Status
     ensures runs { RunsSession (F.told conf.old) (F.told conf.new)
-        (outside_of (P.told plant.old) (C.told clock.old) (E.told entropy.old) (S.told source.old) (K.told sink.old))
-        (outside_of (P.told plant.new) (C.told clock.new) (E.told entropy.new) (S.told source.new) (K.told sink.new)) result }
+        (outside_of (P.told plant.old) (P.stops plant.old) (C.told clock.old) (E.told entropy.old) (S.told source.old) (K.told sink.old))
+        (outside_of (P.told plant.new) (P.stops plant.new) (C.told clock.new) (E.told entropy.new) (S.told source.new) (K.told sink.new)) result }
+    ensures headline { (before : HeldValue) → IsSound before → Kept before (P.stops plant.old) → ForSome (P.told plant.old).disk.bytes
+        (λ bytes. JustifiesSince (Unit {0}) before.history (P.stops plant.old) (P.stops plant.new)) }
+    ensures left { (before : HeldValue) → IsSound before → Kept before (P.stops plant.old) → ForSome (P.told plant.old).disk.bytes
+        (λ bytes. IsLeftBehind before.history (P.stops plant.new)) }
 {
+    runs_join::<P>();
+    what_a_run_keeps::<P>();
     match read_settings(conf) {
         Settings::Empty => hold_session(alloc, plant, clock, entropy, source, sink),
         Settings::NotEmpty => Status::NotBuilt,
@@ -160,10 +187,15 @@ fn hold_session<P: Plant, C: Clock, E: Entropy, S: Source, K: Sink>(
     sink: &mut K,
 ) -> Status
     ensures holds { HoldsSession
-        (outside_of (P.told plant.old) (C.told clock.old) (E.told entropy.old) (S.told source.old) (K.told sink.old))
-        (outside_of (P.told plant.new) (C.told clock.new) (E.told entropy.new) (S.told source.new) (K.told sink.new)) result }
+        (outside_of (P.told plant.old) (P.stops plant.old) (C.told clock.old) (E.told entropy.old) (S.told source.old) (K.told sink.old))
+        (outside_of (P.told plant.new) (P.stops plant.new) (C.told clock.new) (E.told entropy.new) (S.told source.new) (K.told sink.new)) result }
+    ensures headline { (before : HeldValue) → IsSound before → Kept before (P.stops plant.old) → ForSome (P.told plant.old).disk.bytes
+        (λ bytes. JustifiesSince (Unit {0}) before.history (P.stops plant.old) (P.stops plant.new)) }
+    ensures left { (before : HeldValue) → IsSound before → Kept before (P.stops plant.old) → ForSome (P.told plant.old).disk.bytes
+        (λ bytes. IsLeftBehind before.history (P.stops plant.new)) }
 {
     what_steps_keep();
+    what_a_run_keeps::<P>();
     match Engine::start(alloc, plant, clock, &[]) {
         Ok(mut engine) => answer_messages(alloc, &mut engine, plant, clock, entropy, source, sink),
         Err(fault) => start_status(fault),

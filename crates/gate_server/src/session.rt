@@ -5,17 +5,21 @@ ghost use Rattle.gate_machine.specs.History.{Legal};
 ghost use Rattle.gate_machine.specs.Sends.{HasOneBodyEach};
 ghost use Rattle.gate_machine.specs.Serials.{HasOneOrderEach};
 ghost use Rattle.gate_machine.specs.Step.{Step};
-ghost use Rattle.gate_engine.specs.Engine.{StandsForPlant, state_of};
+ghost use Rattle.gate_engine.specs.Engine.{state_of};
+ghost use Rattle.gate_engine.specs.Kept.{Stands, IsSentOf};
+ghost use Rattle.gate_machine.specs.Move.{IsSound};
 ghost use Rattle.wire_front.specs.Stream.{most_taken};
 ghost use Rattle.wire_front.specs.Reply.{text_of};
+ghost use Rattle.gate_server.specs.Headline.{JustifiesSince};
 ghost use Rattle.gate_server.specs.Session.{acme, talk_of, begun, Turns, PutsReply, Ended};
 
+use crate::law::what_a_run_keeps;
 use crate::status::Status;
 use gate_base::{Bytes, NoMemory, Role};
 use gate_engine::Engine;
 use gate_entries::{Caller, Command, Reply};
 use gate_machine::what_steps_keep;
-use plant::{Clock, Entropy, Plant, PutFault, Sink, Source};
+use plant::{Clock, Entropy, Plant, PutFault, Sink, Source, runs_join};
 use std::alloc::Global;
 use wire_front::{Stream, Taken, one_passing, reply_text};
 
@@ -42,19 +46,24 @@ pub fn answer_messages<P: Plant, C: Clock, E: Entropy, S: Source, K: Sink>(
     source: &mut S,
     sink: &mut K,
 ) -> Status
-    requires { StandsForPlant engine.old (P.told plant.old) }
+    requires { Stands engine.old (P.stops plant.old) }
     ensures ended { Ended result
         (talk_of engine.old (P.told plant.old) (C.told clock.old) (E.told entropy.old) begun (S.told source.old) (K.told sink.old))
         engine.new (P.told plant.new) (C.told clock.new) (E.told entropy.new) (S.told source.new) (K.told sink.new) }
-    ensures stands { StandsForPlant engine.new (P.told plant.new) }
+    ensures since { JustifiesSince (IsSentOf engine.old.history (P.stops plant.old)) engine.old.history (P.stops plant.old) (P.stops plant.new) }
+    ensures stands { Stands engine.new (P.stops plant.new) }
+    ensures kept { IsSentOf engine.old.history (P.stops plant.old) → IsSentOf engine.new.history (P.stops plant.new) }
     ensures legal { Legal engine.new.history }
     ensures one_body { HasOneBodyEach engine.new.history }
     ensures one_order { HasOneOrderEach engine.new.history }
+    ensures sound { IsSound engine.new }
 {
     one_passing();
     what_steps_keep();
+    what_a_run_keeps::<P>();
+    runs_join::<P>();
+    engine.keeps_a_legal_history();
     let Ok(caller) = account(alloc) else {
-        engine.keeps_a_legal_history();
         return Status::NoMemory;
     };
     let mut stream = Stream::new(alloc);
@@ -89,7 +98,7 @@ fn turn<P: Plant, C: Clock, E: Entropy, S: Source, K: Sink>(
     source: &mut S,
     sink: &mut K,
 ) -> Result<(), Status>
-    requires stands { StandsForPlant engine.old (P.told plant.old) }
+    requires stands { Stands engine.old (P.stops plant.old) }
     requires caller { caller.now ≡ acme }
     ensures turns { Turns result
         (talk_of engine.old (P.told plant.old) (C.told clock.old) (E.told entropy.old) stream.old (S.told source.old) (K.told sink.old))
@@ -97,8 +106,13 @@ fn turn<P: Plant, C: Clock, E: Entropy, S: Source, K: Sink>(
     ensures fits { stream.new.taken ≤ most_taken }
     ensures read_later { (S.told source.old).faults ≤ (S.told source.new).faults }
     ensures put_later { (K.told sink.old).faults ≤ (K.told sink.new).faults }
-    ensures stands { StandsForPlant engine.new (P.told plant.new) }
+    ensures since { JustifiesSince (IsSentOf engine.old.history (P.stops plant.old)) engine.old.history (P.stops plant.old) (P.stops plant.new) }
+    ensures stands { Stands engine.new (P.stops plant.new) }
+    ensures kept { IsSentOf engine.old.history (P.stops plant.old) → IsSentOf engine.new.history (P.stops plant.new) }
 {
+    what_a_run_keeps::<P>();
+    runs_join::<P>();
+    engine.keeps_a_legal_history();
     let command = match stream.take_message(alloc, source) {
         Taken::Message(command) => command,
         Taken::End => return Err(Status::Ok),
@@ -121,13 +135,16 @@ fn ask_account<P: Plant, C: Clock, E: Entropy>(
     caller: &Caller,
     command: &Command,
 ) -> Reply
-    requires stands { StandsForPlant engine.old (P.told plant.old) }
+    requires stands { Stands engine.old (P.stops plant.old) }
     requires caller { caller.now ≡ acme }
     requires command { IsCommand command.now }
     ensures step { Step (state_of engine.old (P.told plant.old) (C.told clock.old) (E.told entropy.old)) acme command.now result
         (state_of engine.new (P.told plant.new) (C.told clock.new) (E.told entropy.new)) }
-    ensures stands { StandsForPlant engine.new (P.told plant.new) }
+    ensures since { JustifiesSince (IsSentOf engine.old.history (P.stops plant.old)) engine.old.history (P.stops plant.old) (P.stops plant.new) }
+    ensures stands { Stands engine.new (P.stops plant.new) }
+    ensures kept { IsSentOf engine.old.history (P.stops plant.old) → IsSentOf engine.new.history (P.stops plant.new) }
 {
+    what_a_run_keeps::<P>();
     engine.ask(plant, clock, entropy, caller, command)
 }
 

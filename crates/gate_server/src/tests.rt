@@ -8,9 +8,28 @@ use std::process::Abort;
 /// 2026-09-21T14:13:20Z.
 pub const MOMENT: u64 = 1_790_000_000;
 
-/// The head, and the record of empty settings at that moment.
-pub const BEGUN: &[u8] =
-    b"gate journal 00\n\0\0\0\x17\x01\0\0\0\0\0\0\0\x01\0\0\0\0\x6a\xb1\x3b\x80\0\0\0\0\0\0";
+pub const HEAD: &[u8] = b"gate journal 01\n";
+
+/// A gate that is open.
+pub const OPEN: &[u8] = b"\x01";
+
+/// A gate that is closed.
+pub const CLOSED: &[u8] = b"\0";
+
+/// The group of empty settings at that moment as entry 1. Its chain is what Python's hashlib computes.
+pub const SETTINGS: &[u8] = b"\0\0\0\x17\
+    \x62\x49\xa0\x45\x9c\xa5\xd2\xcc\x20\x92\x8f\x29\x70\x17\xda\xb8\
+    \xac\xc0\xa3\xe9\xba\xae\xfc\xc8\xd7\x3d\xb0\x32\xa5\xd0\xa5\x0b\
+    \x01\0\0\0\0\0\0\0\x01\0\0\0\0\x6a\xb1\x3b\x80\0\0\0\0\0\0";
+
+/// The pieces of a disk, from its front on.
+pub type Pieces = &'static [&'static [u8]];
+
+/// The disk behind `begin`.
+pub const BEGUN: Pieces = &[HEAD, OPEN, SETTINGS, CLOSED];
+
+/// The disk with the order.
+pub const WITH_ORDER: Pieces = &[HEAD, OPEN, SETTINGS, OPEN, ORDERED, CLOSED];
 
 pub const ORDER: &[u8] =
     b"POST /orders HTTP/1.1\r\nhost: gate\r\nx-gate-key: acme-token\r\ncontent-length: 234\r\n\r\n\
@@ -30,8 +49,12 @@ const FAULTY_ORDER: &[u8] =
     b"POST /orders HTTP/1.1\r\nhost: gate\r\nx-gate-key: acme-token\r\ncontent-length: 78\r\n\r\n\
     {\"common\":false,\"days\":47,\"key\":\"k1\",\"names\":[\"example.com\"],\"request\":\"MIIB\"}";
 
-/// The record of the order as entry 2 at that moment: what stands in front of its request, and the request.
-pub const ORDERED: &[u8] = b"\0\0\0\xa4\x02\0\0\0\0\0\0\0\x02\0\0\0\0\x6a\xb1\x3b\x80\
+/// The group of the order as entry 2 at that moment: its length and its chain, which is what Python's hashlib computes, what stands
+/// in front of its request, and the request.
+pub const ORDERED: &[u8] = b"\0\0\0\xa4\
+    \xad\x1f\x0f\xc5\xb6\x81\xdc\x52\x1d\x9b\xf6\xdb\xa2\x84\xf4\x09\
+    \xbe\x7b\x92\xa3\x13\x81\xd8\xf7\x6a\x3f\xbb\x01\xc9\xcc\x4d\x53\
+    \x02\0\0\0\0\0\0\0\x02\0\0\0\0\x6a\xb1\x3b\x80\
     \0\x04acme\x02k1\0\0\x2f\x01\x01\0\x0bexample.com\0\x76\
     \x30\x74\x30\x62\x02\x01\0\x30\0\x30\x59\x30\x13\x06\x07\x2a\x86\
     \x48\xce\x3d\x02\x01\x06\x08\x2a\x86\x48\xce\x3d\x03\x01\x07\x03\x42\0\x04\
@@ -66,13 +89,16 @@ const ISSUED: &[u8] =
     {\"certificate\":\"MFIwIQIQQAAAAAAAAAAAAAAAAAAAADANggtleGFtcGxlLmNvbTAKBggqhkjOPQQDAgMhALd\
     XRyESI0vlf1q3Mne7fULZJX84tFTvmDisCE35NcCm\",\"order\":2,\"reply\":\"issued\",\"serial\":\"40000000000000000000000000000000\"}";
 
-fn empty_plant(alloc: Global) -> MemoryPlant {
-    MemoryPlant::new(
-        alloc,
-        Bytes::new(alloc),
-        Bytes::new(alloc),
-        Sequence::new(alloc),
-    )
+/// A plant with these bytes, of which the calls with these numbers fail.
+fn plant_with(
+    rt: &impl Abort,
+    alloc: Global,
+    disk: &[&[u8]],
+    fails: &[(u64, Fail)],
+) -> MemoryPlant {
+    let disk = Bytes::from_vec(joined(rt, alloc, disk));
+    let fails = Sequence::from_slice(alloc, fails).expect(rt, "memory");
+    MemoryPlant::new(alloc, disk, Bytes::new(alloc), fails)
 }
 
 fn source(rt: &impl Abort, alloc: Global, bytes: &[u8]) -> MemorySource {
@@ -129,44 +155,42 @@ enum Asked {
 
 use Asked::{Begin, BeginAgain, CutSession, Session};
 
-/// A run: its messages, what it writes, and what the disk then holds behind what `begin` wrote.
-type Case = (
-    Asked,
-    &'static [&'static [u8]],
-    &'static [&'static [u8]],
-    &'static [u8],
-);
+/// A run: its messages, and what it writes.
+type Run = (Asked, Pieces, Pieces);
+
+/// A run, and what the disk then holds.
+type Case = (Asked, Pieces, Pieces, Pieces);
 
 /// Runs one after another, each list of them over a disk of its own.
 const RUNS: &[&[Case]] = &[
     // what stands is not begun again
-    &[(Begin, &[], &[], b""), (BeginAgain, &[], &[], b"")],
+    &[(Begin, &[], &[], BEGUN), (BeginAgain, &[], &[], BEGUN)],
     // no message, and a part of one
     &[
-        (Begin, &[], &[], b""),
-        (Session, &[], &[], b""),
-        (CutSession, &[b"POST /orders"], &[], b""),
+        (Begin, &[], &[], BEGUN),
+        (Session, &[], &[], BEGUN),
+        (CutSession, &[b"POST /orders"], &[], BEGUN),
     ],
     // a repeated order returns the same reply and writes nothing
     &[
-        (Begin, &[], &[], b""),
-        (Session, &[ORDER], &[PLACED], ORDERED),
-        (Session, &[OTHER_ORDER], &[KEY_REUSED], ORDERED),
+        (Begin, &[], &[], BEGUN),
+        (Session, &[ORDER], &[PLACED], WITH_ORDER),
+        (Session, &[OTHER_ORDER], &[KEY_REUSED], WITH_ORDER),
     ],
     &[
-        (Begin, &[], &[], b""),
-        (Session, &[ORDER, ORDER], &[PLACED, PLACED], ORDERED),
-        (Session, &[ORDER], &[PLACED], ORDERED),
+        (Begin, &[], &[], BEGUN),
+        (Session, &[ORDER, ORDER], &[PLACED, PLACED], WITH_ORDER),
+        (Session, &[ORDER], &[PLACED], WITH_ORDER),
     ],
     // the key of a refused order stays free
     &[
-        (Begin, &[], &[], b""),
-        (Session, &[FAULTY_ORDER], &[NO_DER], b""),
+        (Begin, &[], &[], BEGUN),
+        (Session, &[FAULTY_ORDER], &[NO_DER], BEGUN),
         (
             Session,
             &[FAULTY_ORDER, ORDER, FAULTY_ORDER],
             &[NO_DER, PLACED, KEY_REUSED],
-            ORDERED,
+            WITH_ORDER,
         ),
     ],
 ];
@@ -175,13 +199,13 @@ const RUNS: &[&[Case]] = &[
 fn word_of(asked: Asked) -> (&'static str, Status) {
     match asked {
         Begin => ("begin", Status::Ok),
-        BeginAgain => ("begin", Status::NotEmpty { length: 43 }),
+        BeginAgain => ("begin", Status::NotEmpty { length: 77 }),
         Session => ("session", Status::Ok),
         CutSession => ("session", Status::NotBuilt),
     }
 }
 
-fn joined(rt: &impl Abort, alloc: Global, pieces: &[&[u8]]) -> Vec<u8> {
+pub fn joined(rt: &impl Abort, alloc: Global, pieces: &[&[u8]]) -> Vec<u8> {
     let mut all = Vec::new(alloc);
     for piece in pieces {
         all.extend_from_slice(piece).expect(rt, "memory");
@@ -190,8 +214,8 @@ fn joined(rt: &impl Abort, alloc: Global, pieces: &[&[u8]]) -> Vec<u8> {
 }
 
 /// The run ends so and writes exactly its output.
-fn run_is(rt: &impl Abort, alloc: Global, plant: &mut MemoryPlant, run: Case) {
-    let (asked, input, output, _) = run;
+fn run_is(rt: &impl Abort, alloc: Global, plant: &mut MemoryPlant, run: Run) {
+    let (asked, input, output) = run;
     let (word, want) = word_of(asked);
     let input = joined(rt, alloc, input);
     let output = joined(rt, alloc, output);
@@ -201,20 +225,20 @@ fn run_is(rt: &impl Abort, alloc: Global, plant: &mut MemoryPlant, run: Case) {
     assert_eq!(rt; sink.bytes(), output.as_slice());
 }
 
-/// The disk holds what `begin` wrote and this behind it; nothing was sent to the signer.
-fn holds(rt: &impl Abort, plant: &MemoryPlant, behind: &[u8]) {
-    assert_eq!(rt; plant.disk().get(..43), Some(BEGUN));
-    assert_eq!(rt; plant.disk().get(43..), Some(behind));
+/// The disk holds exactly this; nothing was sent to the signer.
+fn holds(rt: &impl Abort, alloc: Global, plant: &MemoryPlant, disk: Pieces) {
+    let disk = joined(rt, alloc, disk);
+    assert_eq!(rt; plant.disk(), disk.as_slice());
     assert_eq!(rt; plant.sent().len(), 0);
     assert_eq!(rt; plant.short(), 0);
 }
 
 fn runs_are(rt: &impl Abort, alloc: Global, runs: &[Case]) {
-    let mut plant = empty_plant(alloc);
-    for run in runs {
-        let (_, _, _, behind) = *run;
-        run_is(rt, alloc, &mut plant, *run);
-        holds(rt, &plant, behind);
+    let mut plant = plant_with(rt, alloc, &[], &[]);
+    for case in runs {
+        let (asked, input, output, left) = *case;
+        run_is(rt, alloc, &mut plant, (asked, input, output));
+        holds(rt, alloc, &plant, left);
     }
 }
 
@@ -225,23 +249,59 @@ fn runs_write_and_reply_as_they_should(rt: HostRuntime) {
     }
 }
 
+/// What a stop may leave while the order is written, what is asked then, and the reply.
+const STOPPED: &[(Pieces, &[u8], &[u8])] = &[
+    // a part of the group stands behind the closed gate
+    (
+        &[HEAD, OPEN, SETTINGS, CLOSED, b"\0\0\0\xa4\xad\x1f\0\0"],
+        ORDER,
+        PLACED,
+    ),
+    // the whole of it
+    (
+        &[HEAD, OPEN, SETTINGS, CLOSED, ORDERED, CLOSED],
+        ORDER,
+        PLACED,
+    ),
+    // and the gate is torn
+    (
+        &[HEAD, OPEN, SETTINGS, b"\x02", ORDERED, CLOSED],
+        ORDER,
+        PLACED,
+    ),
+    // and the gate is open
+    (WITH_ORDER, OTHER_ORDER, KEY_REUSED),
+];
+
+#[test]
+fn a_session_after_a_stop(rt: HostRuntime) {
+    let alloc = rt.alloc();
+    for (disk, message, reply) in STOPPED {
+        let mut plant = plant_with(&rt, alloc, disk, &[]);
+        let mut sink = MemorySink::new(alloc, Sequence::new(alloc));
+        let status = status_of(&rt, alloc, &mut plant, "session", message, &mut sink);
+        assert_eq!(rt; status, Status::Ok);
+        assert_eq!(rt; sink.bytes(), *reply);
+        holds(&rt, alloc, &plant, WITH_ORDER);
+    }
+}
+
 /// The certificate is returned again without calling the signer.
-const LOST: &[Case] = &[
-    (Begin, &[], &[], b""),
+const LOST: &[Run] = &[
+    (Begin, &[], &[]),
     (
         Session,
         &[ORDER, FINALIZE, FINALIZE],
         &[PLACED, SIGNER_FAULT, ISSUED],
-        b"",
     ),
-    (Session, &[FINALIZE], &[ISSUED], b""),
+    (Session, &[FINALIZE], &[ISSUED]),
 ];
 
 #[test]
 fn a_lost_answer_sends_the_same_bytes_again(rt: HostRuntime) {
     let alloc = rt.alloc();
-    let fails = Sequence::from_slice(alloc, &[(12, Fail::ReplyLost)]).expect(&rt, "memory");
-    let mut plant = MemoryPlant::new(alloc, Bytes::new(alloc), Bytes::new(alloc), fails);
+    // Before the signer: of `begin` 7 calls, of the mount 4, of the order and of what is sent 4 each.
+    let mut plant = plant_with(&rt, alloc, &[], &[(20, Fail::ReplyLost)]);
     for run in LOST {
         run_is(&rt, alloc, &mut plant, *run);
     }

@@ -25,6 +25,9 @@ loop-status-init g c =
           (talked_none c.one_passing.ensures.none c.one_passing.ensures.more c.what_steps_keep.ensures.more (talk begun));
       fits = omega (arith, ap (λ (s : StreamState). s.taken) c.new-stream.ensures);
       stands = c.requires;
+      kept = λ given. given;
+      since = c.what_a_run_keeps.ensures.still c.args.engine.now c.args.plant.now c.args.plant.now c.keeps_a_legal_history.ensures.sound c.requires
+          (c.runs_join.ensures.still c.args.plant.now);
     }
 
 pub loop-status-preserved : goal.loop-status-preserved
@@ -36,4 +39,13 @@ loop-status-preserved g c =
       talked = talked_more c.one_passing.ensures.none c.one_passing.ensures.more c.what_steps_keep.ensures.more _ _ _ before.talked c.in_default-turned.ensures.turns now.read_later now.put_later;
       fits = now.fits;
       stands = now.stands;
+      kept = λ given. now.kept (before.kept given);
+      since = c.what_a_run_keeps.ensures.on c.args.engine.now c.loop-status.engine c.args.plant.now c.loop-status.plant c.turn-turned.new.plant
+          (c.what_steps_keep.ensures.extends _ before.talked.items _ before.talked.steps) before.kept before.since now.since;
     }
+
+pub returns-in-Err-clause-since : goal.returns-in-Err-clause-since
+returns-in-Err-clause-since g c =
+    let before = c.loop-status.invariant in
+    c.what_a_run_keeps.ensures.on c.args.engine.now c.loop-status.engine c.args.plant.now c.loop-status.plant c.turn-turned.new.plant
+    (c.what_steps_keep.ensures.extends _ before.talked.items _ before.talked.steps) before.kept before.since c.turn-turned.ensures.since

@@ -1,6 +1,7 @@
 use Rattle.std.proofs.Common.{◌≡◌, ◌+◌, ◌-◌, ◌≤◌, length}
-use Rattle.gate_engine.specs.Engine.{StandsForPlant}
+use Rattle.gate_engine.specs.Kept.{Stands, IsSentOf}
 use Rattle.wire_front.specs.Stream.{most_taken}
+use Rattle.gate_server.specs.Headline.{JustifiesSince}
 use Rattle.gate_server.specs.Session.{acme, talk_of, begun, Talked}
 use Rattle.gate_server.proofs.session.answer_messages.Given as goal
 
@@ -10,7 +11,9 @@ invariant-loop-status g l = record {
   talked : Talked (talk_of l.fn.engine (g.P.Plant.told l.fn.plant) (g.C.Clock.told l.fn.clock) (g.E.Entropy.told l.fn.entropy) begun (g.S.Source.told l.fn.source) (g.K.Sink.told l.fn.sink))
       (talk_of l.engine (g.P.Plant.told l.plant) (g.C.Clock.told l.clock) (g.E.Entropy.told l.entropy) l.stream (g.S.Source.told l.source) (g.K.Sink.told l.sink));
   fits : l.stream.taken ≤ most_taken;
-  stands : StandsForPlant l.engine (g.P.Plant.told l.plant);
+  stands : Stands l.engine (g.P.Plant.stops l.plant);
+  kept : IsSentOf l.fn.engine.history (g.P.Plant.stops l.fn.plant) → IsSentOf l.engine.history (g.P.Plant.stops l.plant);
+  since : JustifiesSince (IsSentOf l.fn.engine.history (g.P.Plant.stops l.fn.plant)) l.fn.engine.history (g.P.Plant.stops l.fn.plant) (g.P.Plant.stops l.plant);
 }
 
 abbrev pub decreases-loop-status : goal.decreases-loop-status
