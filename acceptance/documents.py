@@ -5,15 +5,14 @@ These are cases of `acceptance/commands`. A block of a document is marked by its
 spaces or more a remark; `11 × 64` stands for 64 bytes 11.
 """
 
-import hashlib
 import os
 import re
 import tomllib
 
 import certificate_request
-from finalizing import certificate_of, entries_of, finalize, issued, journal_with, small_body
-from gate_program import BEGUN_BYTES, ORDER, PLACED, REQUEST, SECONDS, TOP, Wrong
-from gate_program import bad_fields, check, check_each, message, placed, run_command
+from finalizing import certificate_of, entries_of, finalize, issued, small_body
+from gate_program import CLOSED, ORDER, PLACED, REQUEST, SECONDS, TOP, Wrong
+from gate_program import bad_fields, check, check_each, journal_of, message, payloads_of, placed, run_command
 
 README = TOP / "README.md"
 MOST_WORDS = 1_500
@@ -104,25 +103,22 @@ def fixed(entry, content):
 
 
 def journal(gate):
-    """the listings of the journal are what the program writes, but for moments, serial number and signature"""
-    found, body = listed(), small_body(SERIAL, NAMES)
+    """the listings of the journal are what the program writes, but for moments, chains, serial number and signature"""
+    found, body, at = listed(), small_body(SERIAL, NAMES), MOMENT.to_bytes(8, "big")
     gate.begin()
     gate.succeeds("an order", PLACED, "session", sent=ORDER)
-    at = MOMENT.to_bytes(8, "big")
-    written = gate.bytes()
-    begun, order = written[:BEGUN_BYTES], written[BEGUN_BYTES:]
-    check("a begun journal", (begun[:29] + at + begun[37:]).hex(), found["journal"].hex())
-    payload = found["journal"][20:]
-    chain = hashlib.sha256(bytes(32) + payload).digest()
-    gates = b"gate journal 01\n\x01" + len(payload).to_bytes(4, "big") + chain + payload + b"\0"
-    check("the same with gates", gates.hex(), found["gates"].hex())
-    check("an order", (order[:13] + at + order[21:]).hex(), found["order"].hex())
     gate.run("session", sent=finalize(2))
     written = gate.bytes()
+    settings, order, *_ = payloads_of(written)
+    check("the file", journal_of(payloads_of(written)).hex(), written.hex())
     sent, signed = entries_of(written)[2:]
-    whole = journal_with(written, 2, fixed(sent, body), fixed(signed, SIGNATURE))
-    check("what is sent and signed", whole[len(begun + order) :].hex(), (found["sent"] + found["signed"]).hex())
-    check("bytes of the journal", 352, len(whole))
+    payloads = [payload[:9] + at + payload[17:] for payload in (settings, order)]
+    payloads += [fixed(sent, body).payload(), fixed(signed, SIGNATURE).payload()]
+    check("a begun journal", journal_of(payloads[:1]).hex(), found["journal"].hex())
+    for count, name in enumerate(["order", "sent", "signed"], 1):
+        front, whole = [len(journal_of(payloads[:some])) for some in (count, count + 1)]
+        check(name, (journal_of(payloads)[front : whole - 1] + CLOSED).hex(), found[name].hex())
+    check("bytes of the journal", 485, len(journal_of(payloads)))
     blocked = b"\x08" + (2).to_bytes(8, "big") + at + b"\0\x02op" + b"\x02k1" + b"\0\x03\xaa\xbb\xcc"
     check("a blocked key", blocked.hex(), found["blocked"].hex())
 
@@ -273,7 +269,7 @@ def edits(_):
     """every wrong body that docs/PROMISES.md names is an edit of a crate"""
     known = {path.stem for path in TOP.glob("crates/*/must-fail/*.edit")}
     text = (TOP / "docs" / "PROMISES.md").read_text()
-    lines = re.findall(r"^Wrong bodies: .*$", text, re.MULTILINE)
+    lines = re.findall(r"^Wrong bod(?:y|ies): .*$", text, re.MULTILINE)
     named = [name for line in lines for name in re.findall(r"`(\w+)`", line)]
     none_of("no such edit:", [name for name in named if name not in known])
 

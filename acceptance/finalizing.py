@@ -4,7 +4,7 @@ import base64
 import dataclasses
 
 from der import element
-from gate_program import HEAD, Wrong, check, records_of, reply
+from gate_program import Wrong, check, journal_of, payloads_of, reply
 
 SETTINGS, ORDERED, SENT, SIGNED = 1, 2, 6, 7
 ECDSA_SHA256 = bytes.fromhex("300a06082a8648ce3d040302")
@@ -58,12 +58,11 @@ class Entry:
     order: int = 0
     content: bytes = b""
 
-    def record(self):
-        """The record of an entry that was sent or signed."""
+    def payload(self):
+        """The payload of an entry that was sent or signed."""
         payload = self.kind.to_bytes(1, "big") + self.number.to_bytes(8, "big") + self.moment.to_bytes(8, "big")
         payload += len(self.caller).to_bytes(2, "big") + self.caller
-        payload += self.order.to_bytes(8, "big") + len(self.content).to_bytes(2, "big") + self.content
-        return len(payload).to_bytes(4, "big") + payload
+        return payload + self.order.to_bytes(8, "big") + len(self.content).to_bytes(2, "big") + self.content
 
 
 def entry_of(payload):
@@ -79,7 +78,7 @@ def entry_of(payload):
 
 def entries_of(written):
     """The entries of a journal's bytes; each has its place as its number, and no moment is before the last one."""
-    payloads = records_of(written)
+    payloads = payloads_of(written)
     if payloads is None:
         raise Wrong(f"{len(written)} bytes are no journal")
     entries = [entry_of(payload) for payload in payloads]
@@ -89,6 +88,5 @@ def entries_of(written):
 
 
 def journal_with(written, count, *entries):
-    """The journal's first records, so many, and behind them these entries."""
-    kept = [len(payload).to_bytes(4, "big") + payload for payload in records_of(written)[:count]]
-    return HEAD + b"".join(kept + [entry.record() for entry in entries])
+    """The journal of its first payloads, so many, and behind them these entries."""
+    return journal_of(payloads_of(written)[:count] + [entry.payload() for entry in entries])

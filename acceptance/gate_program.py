@@ -2,7 +2,9 @@
 
 import base64
 import contextlib
+import hashlib
 import pathlib
+import resource
 import shutil
 import subprocess
 import sys
@@ -16,8 +18,16 @@ PROGRAM = TOP / "crates" / "gate_server" / "out" / "gate_server"
 SECONDS = 60
 SIGNER = "standin:00112233445566778899aabbccddeeff"
 USAGE = "usage: gate JOURNAL CONF SIGNER WORDS"
-HEAD = b"gate journal 00\n"
-BEGUN_BYTES = 43
+# The journal's file by docs/FORMATS.md: the head, the first gate's place, and what a group takes beside its payload.
+HEAD = b"gate journal 01\n"
+FIRST_GATE = len(HEAD)
+CLOSED, OPEN = b"\0", b"\1"
+NO_CHAIN = bytes(32)
+BARE_BYTES = 37
+MOST_PAYLOAD = 1_114_112
+BEGUN_BYTES = 77
+# A small disk.
+DISK_BYTES = 65_536
 
 # A certificate request in the form that usual tools write: its head, a P-256 key, no attributes and a
 # signature of eight bits.
@@ -72,6 +82,7 @@ def bad_fields(rule):
 
 ORDER = message(["example.com"])
 OTHER_ORDER = message(["example.com", "www.example.com"])
+DISK_FAULT = reply("503 Service Unavailable", '{"reply":"disk_fault"}')
 PLACED = placed(2)
 KEY_REUSED = key_reused(2)
 
@@ -145,19 +156,62 @@ def check_error(what, name, found):
         check(f"{what}: the line {line!r} is indented by two spaces", True, line.startswith("  ") and line[2:3] != " ")
 
 
-def records_of(written):
-    """The payloads of a journal's records; None where the bytes are no journal."""
-    if not written.startswith(HEAD):
-        return None
-    payloads, at = [], len(HEAD)
-    while at < len(written):
-        size = int.from_bytes(written[at : at + 4], "big")
-        payload = written[at + 4 : at + 4 + size]
-        if len(written) < at + 4 + size or size == 0:
-            return None
+def group_of(chain, payload):
+    """What stands behind an open gate: the length, the chain and the payload. And the chain."""
+    chain = hashlib.sha256(chain + payload).digest()
+    return len(payload).to_bytes(4, "big") + chain + payload, chain
+
+
+def journal_of(payloads):
+    """The bytes of the journal of these payloads, up to its closed gate."""
+    written, chain = HEAD, NO_CHAIN
+    for payload in payloads:
+        group, chain = group_of(chain, payload)
+        written += OPEN + group
+    return written + CLOSED
+
+
+def groups_from(written, at=FIRST_GATE, chain=NO_CHAIN):
+    """The payloads from the gate at a place on, the place of the closed gate behind them, and the last chain."""
+    payloads = []
+    while written[at : at + 1] == OPEN:
+        size = int.from_bytes(written[at + 1 : at + 5], "big")
+        end = at + BARE_BYTES + size
+        payload = written[end - size : end]
+        group, chain = group_of(chain, payload)
+        if not 1 <= size <= MOST_PAYLOAD or len(written) <= end or written[at + 1 : end] != group:
+            raise Wrong(f"no group stands behind the open gate at {at}")
         payloads.append(payload)
-        at += 4 + size
-    return payloads
+        at = end
+    return payloads, at, chain
+
+
+def payloads_of(written):
+    """The payloads of a journal; None where the bytes are none."""
+    if not written.startswith(HEAD) or len(written) <= FIRST_GATE:
+        return None
+    try:
+        return groups_from(written)[0]
+    except Wrong:
+        return None
+
+
+@contextlib.contextmanager
+def small_disk(folder):
+    """A file system in memory of few bytes; none where the machine doesn't allow mounting."""
+    place = pathlib.Path(folder) / "disk"
+    place.mkdir()
+    found = run_command(["mount", "-t", "tmpfs", "-o", f"size={DISK_BYTES}", "tmpfs", str(place)])
+    try:
+        yield place if found.returncode == 0 else None
+    finally:
+        if found.returncode == 0:
+            run_command(["umount", str(place)])
+
+
+def file_limit(bytes_at_most):
+    """What a child does before it starts the program: files may have so many bytes at most."""
+    return lambda: resource.setrlimit(resource.RLIMIT_FSIZE, (bytes_at_most, resource.RLIM_INFINITY))
 
 
 class Gate:

@@ -23,12 +23,14 @@ class SigningDevice:
     `signer` is the program's word for it, and `bodies` are all that it got, in their order. It closes without an answer
     at the first `drops` bodies. Where `size` is given, an answer has that length and as many zero bytes. `holding` is
     called with each body while the device holds it, before it answers or closes. `changed` is what is sent in place of
-    an answer's bytes, and each byte of it is sent after a `pause` in seconds.
+    an answer's bytes, and each byte of it is sent after a `pause` in seconds. A `silent` one prints no fault.
     """
 
-    def __init__(self, secret=b"", drops=0, size=None, port=0, holding=lambda body: None, changed=bytes, pause=0):
+    def __init__(
+        self, secret=b"", drops=0, size=None, port=0, holding=lambda body: None, changed=bytes, pause=0, silent=False
+    ):
         self.secret, self.drops, self.size, self.holding, self.bodies = secret, drops, size, holding, []
-        self.changed, self.pause = changed, pause
+        self.changed, self.pause, self.silent = changed, pause, silent
         self.listener = socket.create_server(("127.0.0.1", port))
         self.signer = f"loopback:{self.listener.getsockname()[1]}"
         self.thread = threading.Thread(target=self.serve, daemon=True)
@@ -56,7 +58,8 @@ class SigningDevice:
                 try:
                     self.answer(connection)
                 except OSError as fault:
-                    print(f"signing device: {fault}", file=sys.stderr)
+                    if not self.silent:
+                        print(f"signing device: {fault}", file=sys.stderr)
 
     def answer(self, connection):
         with connection.makefile("rb") as stream:
