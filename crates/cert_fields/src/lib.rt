@@ -11,6 +11,3 @@ pub use address::{are_visible, is_address, is_visible};
 pub use general_name::target_of_general_name;
 pub use issuer_name::is_issuer_name;
 pub use profile::is_sound_profile;
-
-#[cfg(test)]
-mod tests;

@@ -11,6 +11,3 @@ pub use laws::times_are_read_again;
 pub use reading::read_time;
 pub use time::Time;
 pub use writing::time_of;
-
-#[cfg(test)]
-mod tests;

@@ -14,6 +14,3 @@ pub use fields::CsrFields;
 pub use gate_base::KeyKind;
 pub use laws::{forms_are_read, one_reading};
 pub use reading::read_request;
-
-#[cfg(test)]
-mod tests;

@@ -27,6 +27,3 @@ pub use parts::{
 pub use reading::read_tree;
 pub use tree::Tree;
 pub use writing::write_tree;
-
-#[cfg(test)]
-mod tests;

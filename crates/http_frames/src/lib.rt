@@ -13,6 +13,3 @@ pub use front::Front;
 pub use law::{one_front, one_passing};
 pub use message::Message;
 pub use wire::{Got, Wire};
-
-#[cfg(test)]
-mod tests;

@@ -17,6 +17,3 @@ pub use group::{MAX_PAYLOAD, group_total};
 pub use head::FIRST_GATE;
 pub use journal::Journal;
 pub use law::{no_journal_is_refused, one_break, one_group_more, one_reading};
-
-#[cfg(test)]
-mod tests;

@@ -21,6 +21,3 @@ pub use reserved::is_reserved;
 pub use rule::{Rule, RuleKind, SuffixFault};
 pub use suffix::Suffixes;
 pub use target::{read_target, target_text};
-
-#[cfg(test)]
-mod tests;

@@ -17,6 +17,3 @@ mod validity;
 
 pub use laws::{a_list_tells_each_rule, one_reading};
 pub use lint::lint_body;
-
-#[cfg(test)]
-mod tests;

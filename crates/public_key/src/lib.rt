@@ -10,6 +10,3 @@ pub use bits::{is_point, numbers_of};
 pub use key::{behind_zero, kind_named, read_key_kind};
 pub use laws::one_kind;
 pub use number::{is_exponent, is_modulus, is_positive, magnitude};
-
-#[cfg(test)]
-mod tests;

@@ -17,6 +17,3 @@ pub use names::is_short;
 pub use plan::Plan;
 pub use signing::{certificate, certificate_len};
 pub use small::small_body;
-
-#[cfg(test)]
-mod tests;

@@ -15,6 +15,3 @@ pub use fault::BodyFault;
 pub use laws::one_body;
 pub use reading::read_body;
 pub use value::{Attribute, Extension, Primitive};
-
-#[cfg(test)]
-mod tests;

@@ -1,5 +1,5 @@
-use crate::{Body, BodyFault, read_body};
 use std::test::Fail;
+use tbs_shape::{Body, BodyFault, read_body};
 
 /// A body with a version, a countryName and a commonName, and two extensions.
 const FULL: &[u8] =

@@ -1,10 +1,7 @@
-use crate::element::{element_len, push_element, push_head};
-use crate::fault::{DerFault, DerKind, ReadFault};
-use crate::part::part_at;
-use crate::parts::{are_none, constructed_parts, skip_first, take_constructed, take_primitive};
-use crate::reading::read_tree;
-use crate::tag;
-use crate::writing::write_tree;
+use der_text::{
+    DerFault, DerKind, ReadFault, are_none, constructed_parts, element_len, part_at, push_element,
+    push_head, read_tree, skip_first, tag, take_constructed, take_primitive, write_tree,
+};
 use std::alloc::Global;
 use std::process::Abort;
 use std::test::Fail;

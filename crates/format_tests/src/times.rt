@@ -1,4 +1,4 @@
-use crate::{read_time, time_of};
+use cert_time::{read_time, time_of};
 use gate_base::Moment;
 
 const UTC: u8 = 0x17;

@@ -1,5 +1,5 @@
-use crate::read_key_kind;
 use gate_base::KeyKind;
+use public_key::read_key_kind;
 use std::alloc::{AllocError, Global};
 use std::test::Fail;
 

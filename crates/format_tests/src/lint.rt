@@ -1,11 +1,11 @@
 mod changes;
 mod shapes;
 
-use crate::lint_body;
 use changes::{ONE_CHANGE, RSA_KEYS, TWO_CHANGES};
 use der_text::tag::SEQUENCE;
 use gate_base::{Bytes, Moment, NoMemory, Profile, Rules, SigAlg, Sixteen4};
 use names_core::Suffixes;
+use profile_lint::lint_body;
 use shapes::{PARTS, SHAPES};
 use std::alloc::Global;
 

@@ -1,4 +1,4 @@
-use crate::{CsrFault, read_request};
+use csr10::{CsrFault, read_request};
 use der_text::{DerFault, DerKind, push_element, tag};
 use gate_base::NoMemory;
 use std::alloc::Global;

@@ -1,11 +1,13 @@
 ghost use Rattle.journal_core.specs.Journal.{IsPayload};
 
-use super::*;
-use crate::head::HEAD;
 use gate_base::{Bytes, Sequence};
+use journal_core::{AppendDisk, BeginFault, FIRST_GATE, Journal, MountFault, begin, group_total};
 use plant::{Fail, MAX_BYTES, MemoryPlant};
 use std::alloc::Global;
 use std::test::Fail as TestFail;
+
+/// The line that a journal begins with.
+const HEAD: &[u8] = b"gate journal 01\n";
 
 /// The group of the payload `ab` behind the first gate, as Python's hashlib computes it.
 const FIRST: &[u8] = b"\0\0\0\x02\
@@ -102,26 +104,25 @@ fn mounted_behind(
     Ok(mounted(alloc, &mut plant))
 }
 
-#[test]
-fn the_last_gate_at_each_value(rt: HostRuntime) -> Result<(), TestFail> {
-    let alloc = rt.alloc();
+/// The first value of a gate behind which something else is found.
+fn first_wrong_gate(alloc: Global) -> Result<Option<u8>, TestFail> {
     for gate in 0..=255_u8 {
         let bare = mounted_behind(alloc, gate, b"")?;
         let whole = mounted_behind(alloc, gate, SECOND_AND_GATE)?;
-        if gate == 1 {
-            assert_eq!(rt; bare, Err(MountFault::BadHead { at: SECOND_GATE }));
-            assert_eq!(rt; whole, Ok(2));
+        let right = if gate == 1 {
+            bare == Err(MountFault::BadHead { at: SECOND_GATE }) && whole == Ok(2)
         } else {
-            assert_eq!(rt; bare, Ok(1), "bare {gate}");
-            assert_eq!(rt; whole, Ok(1), "whole {gate}");
+            bare == Ok(1) && whole == Ok(1)
+        };
+        if !right {
+            return Ok(Some(gate));
         }
     }
-    Ok(())
+    Ok(None)
 }
 
-#[test]
-fn a_file_cut_in_its_last_group(rt: HostRuntime) -> Result<(), TestFail> {
-    let alloc = rt.alloc();
+/// The first number of bytes of which a mount tells something else; the last gate and its group are cut off byte by byte.
+fn first_wrong_cut(alloc: Global) -> Result<Option<usize>, TestFail> {
     let mut bytes = joined(alloc, &[HEAD, b"\x01", FIRST, b"\x01", SECOND_AND_GATE])?;
     for _ in 0..96 {
         bytes.pop();
@@ -132,79 +133,123 @@ fn a_file_cut_in_its_last_group(rt: HostRuntime) -> Result<(), TestFail> {
             17..=55 => MountFault::BadHead { at: FIRST_GATE },
             _ => MountFault::BadHead { at: SECOND_GATE },
         };
-        assert_eq!(rt; mounted(alloc, &mut plant), Err(want), "of {count} bytes");
+        if mounted(alloc, &mut plant) != Err(want) {
+            return Ok(Some(count));
+        }
     }
+    Ok(None)
+}
+
+#[test]
+fn the_last_gate_and_a_file_that_is_cut(rt: HostRuntime) -> Result<(), TestFail> {
+    let alloc = rt.alloc();
+    assert_eq!(rt; first_wrong_gate(alloc)?, None);
+    assert_eq!(rt; first_wrong_cut(alloc)?, None);
     Ok(())
+}
+
+/// Another head, no payload, the length 0, the length 1,114,113, another chain; zeros follow.
+const FRONTS: &[(&[u8], Result<usize, MountFault>)] = &[
+    (b"gate journal 00\n", Err(MountFault::NotBegun)),
+    (b"gate journal 01\n", Ok(0)),
+    (b"gate journal 01\n\x01\0\0\0\0", Err(BAD_FIRST)),
+    (b"gate journal 01\n\x01\0\x11\0\x01", Err(BAD_FIRST)),
+    (b"gate journal 01\n\x01\0\0\0\x02", Err(BAD_FIRST)),
+];
+
+const BAD_FIRST: MountFault = MountFault::BadHead { at: FIRST_GATE };
+
+fn first_wrong_front(
+    alloc: Global,
+    rows: &[(&[u8], Result<usize, MountFault>)],
+) -> Result<Option<usize>, TestFail> {
+    for (at, row) in rows.iter().enumerate() {
+        let mut disk = Vec::from_slice(alloc, row.0)?;
+        disk.extend_from_slice(&[0; 40])?;
+        let mut plant = plant_with(alloc, &disk, &[])?;
+        if mounted(alloc, &mut plant) != row.1 {
+            return Ok(Some(at));
+        }
+    }
+    Ok(None)
 }
 
 #[test]
 fn bytes_that_are_no_journal_are_told(rt: HostRuntime) -> Result<(), TestFail> {
-    let alloc = rt.alloc();
-    let bad_first = MountFault::BadHead { at: FIRST_GATE };
-    // another head, no payload, the length 0, the length 1,114,113, another chain; zeros follow
-    let cases = [
-        (b"gate journal 00\n".as_slice(), Err(MountFault::NotBegun)),
-        (b"gate journal 01\n".as_slice(), Ok(0)),
-        (b"gate journal 01\n\x01\0\0\0\0".as_slice(), Err(bad_first)),
-        (
-            b"gate journal 01\n\x01\0\x11\0\x01".as_slice(),
-            Err(bad_first),
-        ),
-        (
-            b"gate journal 01\n\x01\0\0\0\x02".as_slice(),
-            Err(bad_first),
-        ),
-    ];
-    for (front, want) in cases {
-        let mut disk = Vec::from_slice(alloc, front)?;
-        disk.extend_from_slice(&[0; 40])?;
-        let mut plant = plant_with(alloc, &disk, &[])?;
-        assert_eq!(rt; mounted(alloc, &mut plant), want, "{front:?}");
-    }
+    assert_eq!(rt; first_wrong_front(rt.alloc(), FRONTS)?, None);
     Ok(())
+}
+
+/// A failing call of begin, which asks the length, and writes and syncs three times; and what a mount then finds.
+const OF_BEGIN: &[(u64, Result<usize, MountFault>)] = &[
+    (1, Err(MountFault::NotBegun)),
+    (2, Err(MountFault::NotBegun)),
+    (3, Ok(0)),
+    (4, Ok(0)),
+    (5, Ok(0)),
+    (6, Ok(0)),
+    (7, Ok(1)),
+];
+
+fn first_wrong_begin(
+    alloc: Global,
+    rows: &[(u64, Result<usize, MountFault>)],
+) -> Result<Option<usize>, TestFail> {
+    for (at, row) in rows.iter().enumerate() {
+        let mut plant = plant_with(alloc, b"", &[(row.0, Fail::Disk)])?;
+        let failed = begin(alloc, &mut plant, b"ab") == Err(BeginFault::Disk);
+        let found = mounted(alloc, &mut plant) == row.1;
+        if !failed || !found || plant.short() != 0 {
+            return Ok(Some(at));
+        }
+    }
+    Ok(None)
+}
+
+/// The first call of a mount whose fault isn't told, or after which the next mount finds something else: the sync, the
+/// length, the head and the rest.
+fn first_wrong_mount(alloc: Global, begun: &[u8]) -> Result<Option<u64>, TestFail> {
+    for call in 1..=4_u64 {
+        let mut plant = plant_with(alloc, begun, &[(call, Fail::Disk)])?;
+        let failed = mounted(alloc, &mut plant) == Err(MountFault::Disk);
+        if !failed || mounted(alloc, &mut plant) != Ok(1) {
+            return Ok(Some(call));
+        }
+    }
+    Ok(None)
+}
+
+/// Whether an append fails at the disk and leaves a broken journal.
+fn breaks(alloc: Global, plant: &mut MemoryPlant) -> bool {
+    match append_once(alloc, plant, b"cde") {
+        Ok((journal, Some(AppendDisk))) => journal.broken(),
+        _ => false,
+    }
+}
+
+/// A failing call of an append behind a mount: the group and its sync, the gate and its sync; and what a mount then finds.
+const OF_APPEND: &[(u64, usize)] = &[(5, 1), (6, 1), (7, 1), (8, 2)];
+
+fn first_wrong_append(
+    alloc: Global,
+    begun: &[u8],
+    rows: &[(u64, usize)],
+) -> Result<Option<usize>, TestFail> {
+    for (at, row) in rows.iter().enumerate() {
+        let mut plant = plant_with(alloc, begun, &[(row.0, Fail::Disk)])?;
+        if !breaks(alloc, &mut plant) || mounted(alloc, &mut plant) != Ok(row.1) {
+            return Ok(Some(at));
+        }
+    }
+    Ok(None)
 }
 
 #[test]
 fn a_failing_call_of_the_disk(rt: HostRuntime) -> Result<(), TestFail> {
     let alloc = rt.alloc();
-    // of begin: the length, and three times a write and a sync
-    for (call, want) in [
-        (1, Err(MountFault::NotBegun)),
-        (2, Err(MountFault::NotBegun)),
-        (3, Ok(0)),
-        (4, Ok(0)),
-        (5, Ok(0)),
-        (6, Ok(0)),
-        (7, Ok(1)),
-    ] {
-        let mut plant = plant_with(alloc, b"", &[(call, Fail::Disk)])?;
-        assert_eq!(rt;
-            begin(alloc, &mut plant, b"ab"),
-            Err(BeginFault::Disk),
-            "call {call}"
-        );
-        assert_eq!(rt; mounted(alloc, &mut plant), want, "after call {call}");
-        assert_eq!(rt; plant.short(), 0);
-    }
     let begun = joined(alloc, &[HEAD, b"\x01", FIRST, b"\0"])?;
-    // of a mount: the sync, the length, the head and the rest
-    for call in 1..=4_u64 {
-        let mut plant = plant_with(alloc, &begun, &[(call, Fail::Disk)])?;
-        assert_eq!(rt;
-            mounted(alloc, &mut plant),
-            Err(MountFault::Disk),
-            "call {call}"
-        );
-        assert_eq!(rt; mounted(alloc, &mut plant), Ok(1), "after call {call}");
-    }
-    // of an append: the group and its sync, the gate and its sync
-    for (call, want) in [(5, 1), (6, 1), (7, 1), (8, 2)] {
-        let mut plant = plant_with(alloc, &begun, &[(call, Fail::Disk)])?;
-        match append_once(alloc, &mut plant, b"cde") {
-            Ok((journal, Some(AppendDisk))) => assert!(rt; journal.broken(), "call {call}"),
-            _ => panic!(rt; "no fault of call {call}"),
-        }
-        assert_eq!(rt; mounted(alloc, &mut plant), Ok(want), "after call {call}");
-    }
+    assert_eq!(rt; first_wrong_begin(alloc, OF_BEGIN)?, None);
+    assert_eq!(rt; first_wrong_mount(alloc, &begun)?, None);
+    assert_eq!(rt; first_wrong_append(alloc, &begun, OF_APPEND)?, None);
     Ok(())
 }

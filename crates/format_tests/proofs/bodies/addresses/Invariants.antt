@@ -1,7 +1,7 @@
 use Rattle.std.proofs.Common.{◌≡◌, length}
 use Rattle.std.specs.List.{AllByRecursion}
 use Rattle.tbs_build.specs.Names.{IsShort}
-use Rattle.tbs_build.proofs.tests.addresses.Given as goal
+use Rattle.format_tests.proofs.bodies.addresses.Given as goal
 
 -- so many addresses already, each short
 abbrev pub invariant-loop-last : goal.invariant-loop-last

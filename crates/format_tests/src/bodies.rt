@@ -5,7 +5,6 @@ ghost use Rattle.tbs_build.specs.Names.{IsShort};
 ghost use Rattle.tbs_build.specs.Plan.{begins_with_name, is_name as spec_is_name};
 ghost use Rattle.cert_fields.specs.Profile.{IsSoundProfile};
 
-use crate::{Plan, build, certificate, certificate_len, is_short, small_body};
 use cert_fields::is_sound_profile;
 use gate_base::{
     Address, Bytes, KeyKind, Moment, NoMemory, Profile, SigAlg, Sixteen, Sixteen4, Target, Targets,
@@ -13,6 +12,7 @@ use gate_base::{
 use names_core::read_target;
 use public_key::read_key_kind;
 use std::alloc::Global;
+use tbs_build::{Plan, build, certificate, certificate_len, is_short, small_body};
 
 const SERIAL: Sixteen = Sixteen([0x40, 0, 0, 0, 0, 0, 0, 0, 0, 0, 0, 0, 0, 0, 0, 0]);
 
