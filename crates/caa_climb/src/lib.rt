@@ -13,6 +13,3 @@ pub use climbing::{climb, fresh_until};
 pub use issue_value::{IssueValue, is_issuer_domain_name, one_reading, read_issue_value};
 pub use permitting::permission;
 pub use relevant::Climb;
-
-#[cfg(test)]
-mod tests;

@@ -15,6 +15,3 @@ pub use confirming::confirms;
 pub use covering::covers;
 pub use value::value_text;
 pub use verdict::Verdict;
-
-#[cfg(test)]
-mod tests;

@@ -21,8 +21,8 @@ use Rattle.gate_settings.specs.declared.settings.Settings.{Settings}
 use Rattle.gate_entries.specs.declared.entry.Entry.{Entry}
 use Rattle.gate_entries.specs.declared.entry.What.{What}
 use Rattle.gate_entries.specs.declared.entry.What.TheVariants as whats
-use Rattle.evidence_index.specs.declared.why.Why.{Why}
-use Rattle.evidence_index.specs.declared.why.Why.TheVariants.{CaaMissing, CaaUnknown, CaaOld, CaaCritical, CaaDenied, CaaTooFew, CaaOneRegion}
+use Rattle.gate_entries.specs.declared.reply.Why.{Why}
+use Rattle.gate_entries.specs.declared.reply.Why.TheVariants.{CaaMissing, CaaUnknown, CaaOld, CaaCritical, CaaDenied, CaaTooFew, CaaOneRegion}
 use Rattle.evidence_index.specs.Lookups.{find_last, is_by, primary_of}
 
 -- ---- which answers count

@@ -21,8 +21,8 @@ use Rattle.gate_entries.specs.declared.entry.Entry.{Entry}
 use Rattle.gate_entries.specs.declared.entry.What.{What}
 use Rattle.gate_entries.specs.declared.entry.What.TheVariants as whats
 use Rattle.evidence_index.specs.declared.evidence.Evidence.{Evidence}
-use Rattle.evidence_index.specs.declared.why.Why.{Why}
-use Rattle.evidence_index.specs.declared.why.Why.TheVariants.{NoProof, ProofTooFew, ProofOneRegion, ProofOld}
+use Rattle.gate_entries.specs.declared.reply.Why.{Why}
+use Rattle.gate_entries.specs.declared.reply.Why.TheVariants.{NoProof, ProofTooFew, ProofOneRegion, ProofOld}
 use Rattle.evidence_index.specs.Lookups.{is_by, settings_at, challenge_of, seen_at_in, primary_of}
 
 -- ---- what a perspective saw of a challenge

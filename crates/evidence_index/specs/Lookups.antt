@@ -26,6 +26,11 @@ abbrev pub is_settings : What → Bool
 is_settings (whats.Settings bytes) = true
 is_settings what = false
 
+-- the bytes of settings that an entry says
+abbrev pub bytes_in : What → Option (List ℕ)
+bytes_in (whats.Settings bytes) = Some bytes
+bytes_in what = None
+
 -- the settings that an entry says
 abbrev pub settings_in : What → Option Settings
 settings_in (whats.Settings bytes) = settings_of bytes
@@ -39,9 +44,17 @@ is_settings_by number entry = is_settings entry.what && nat_le entry.number numb
 abbrev pub settings_at : ℕ → List Entry → Option Settings
 settings_at number history = option_and_then (λ entry. settings_in entry.what) (find_last (is_settings_by number) history)
 
--- the settings in force now: those of the last entry of settings
+-- the last entry of settings
+abbrev pub last_settings : List Entry → Option Entry
+last_settings history = find_last (λ entry. is_settings entry.what) history
+
+-- the bytes of the settings in force now: those of the last entry of settings
+abbrev pub settings_bytes : List Entry → Option (List ℕ)
+settings_bytes history = option_and_then (λ entry. bytes_in entry.what) (last_settings history)
+
+-- the settings in force now
 abbrev pub settings_now : List Entry → Option Settings
-settings_now history = option_and_then (λ entry. settings_in entry.what) (find_last (λ entry. is_settings entry.what) history)
+settings_now history = option_and_then (λ entry. settings_in entry.what) (last_settings history)
 
 -- ---- challenges
 

@@ -3,8 +3,8 @@ ghost use Rattle.std.specs.Prelude.{◌≡◌, Option, Some, None, IfOk, option_
 ghost use Rattle.std.specs.List.{fold};
 ghost use Rattle.evidence_index.specs.Evidence as spec;
 
-use crate::why::Why;
 use gate_base::{Moment, NoMemory, Plain, Target, reuse_days};
+use gate_entries::Why;
 use perspectives::Quorum;
 use std::alloc::Global;
 

@@ -3,11 +3,12 @@
 
 mod evidence;
 mod index;
+mod laws;
 mod lookups;
 mod noting;
 mod permitting;
 mod proving;
-mod why;
 
 pub use index::Index;
-pub use why::Why;
+pub use laws::some_settings_are_in_force;
+pub use lookups::{settings_bytes, settings_now};

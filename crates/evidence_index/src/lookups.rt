@@ -1,5 +1,5 @@
 //! Look-ups in the list of entries.
-ghost use Rattle.std.specs.Prelude.{◌≡◌, Some, option_copied, IfOk};
+ghost use Rattle.std.specs.Prelude.{◌≡◌, Some, option_copied, option_map, IfOk};
 ghost use Rattle.std.specs.List.{find};
 ghost use Rattle.gate_settings.specs.Meaning.{IsReadable, settings_of};
 ghost use Rattle.evidence_index.specs.Lookups as spec;
@@ -79,6 +79,45 @@ pub fn settings_at(
     ensures { IfOk result (λ settings. settings ≡ spec.settings_at number entries.now) }
 {
     match settings_entry(entries, number) {
+        Some(entry) => settings_in(alloc, &entry.what),
+        None => Ok(None),
+    }
+}
+
+/// The last entry of settings.
+fn last_settings(entries: &[Entry]) -> Option<&Entry>
+    ensures { option_copied result ≡ spec.last_settings entries.now }
+{
+    entries.iter().rev().find(|entry| is_settings(&entry.what))
+}
+
+/// The bytes of settings that an entry says.
+fn bytes_in(what: &What) -> Option<&[u8]>
+    ensures { option_map (λ bytes. bytes.now) result ≡ spec.bytes_in what.now }
+{
+    match what {
+        What::Settings { bytes } => Some(bytes.as_slice()),
+        _ => None,
+    }
+}
+
+/// The bytes of the settings in force: those of the last entry of settings.
+pub fn settings_bytes(entries: &[Entry]) -> Option<&[u8]>
+    ensures { option_map (λ bytes. bytes.now) result ≡ spec.settings_bytes entries.now }
+{
+    match last_settings(entries) {
+        Some(entry) => bytes_in(&entry.what),
+        None => None,
+    }
+}
+
+/// The settings in force.
+#[tactic(auto, using(crate::proofs::Found::found_readable))]
+pub fn settings_now(alloc: Global, entries: &[Entry]) -> Result<Option<Settings>, NoMemory>
+    requires { AreSound entries.now }
+    ensures { IfOk result (λ settings. settings ≡ spec.settings_now entries.now) }
+{
+    match last_settings(entries) {
         Some(entry) => settings_in(alloc, &entry.what),
         None => Ok(None),
     }

@@ -6,10 +6,9 @@ ghost use Rattle.evidence_index.specs.Caa.{latest_caa};
 ghost use Rattle.evidence_index.specs.Noting.{AreSound, IsEarly};
 
 use crate::lookups::{is_by, primary_of};
-use crate::why::Why;
 use caa_climb::{Climb, Permission, climb, fresh_until, permission};
 use gate_base::{Address, ByteLists, Bytes, CaaRows, Moment, Name, NoMemory, Plain, Target};
-use gate_entries::{Entry, What};
+use gate_entries::{Entry, What, Why};
 use gate_settings::Settings;
 use perspectives::{Panel, Quorum, quorum};
 use std::alloc::Global;

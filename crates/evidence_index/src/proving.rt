@@ -7,10 +7,9 @@ ghost use Rattle.evidence_index.specs.Noting.{AreSound};
 
 use crate::evidence::{Evidence, evidence_why};
 use crate::lookups::{challenge_of, is_by, primary_of, seen_at_in, settings_at};
-use crate::why::Why;
 use domain_methods::{Challenge, Verdict, confirms, covers};
 use gate_base::{Moment, NoMemory, Target};
-use gate_entries::{Entry, What};
+use gate_entries::{Entry, What, Why};
 use gate_settings::Settings;
 use names_core::Suffixes;
 use perspectives::{Panel, Quorum, quorum};

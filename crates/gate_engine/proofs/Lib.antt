@@ -7,3 +7,5 @@ pub mod Signings
 pub mod Kept
 pub mod Recovery
 pub mod Begun
+pub mod Justified
+pub mod Renewals

@@ -15,7 +15,7 @@ use Rattle.gate_machine.specs.Move.{Held, IsSound, Extends, Settles}
 use Rattle.gate_machine.specs.Step.{bodies_of}
 use Rattle.gate_engine.specs.declared.fault.StartFault.{StartFault}
 use Rattle.gate_engine.specs.declared.fault.StartFault.TheVariants as starts
-use Rattle.gate_engine.specs.Engine.{held_as, RefusesStart, IsBadAt, IsOutside}
+use Rattle.gate_engine.specs.Engine.{held_as, RefusesOpen, IsBadAt, IsOutside, IsOther}
 use Rattle.gate_engine.specs.Kept.{IsImageOf, Stands, IsSentOf, Kept, whole_of, KeepsBetween, FindsLegal, KeepsLegal}
 use Rattle.gate_engine.proofs.Kept.{now_since, extends_same, extends_on, settled_image, sent_more}
 
@@ -75,24 +75,39 @@ sent_settled more before found stops settled recorded = elim settled [
 module _ (push : (history : List Entry) (entry : Entry) → Legal history → Follows history entry → Legal (history ++ entry ∷ []))
     (good : (bytes : List ℕ) (history : List Entry) (at : ℕ) → Legal history → IsJournal (payloads_of history) bytes → IsBadAt bytes at → ⊥)
     (unrefused : (bytes : List ℕ) (payloads : List (List ℕ)) (fault : MountFault) → IsJournal payloads bytes → Refuses fault bytes → IsOutsideMount fault) where
-  outside_of_journal : (bytes : List ℕ) (history : List Entry) → Legal history → IsJournal (payloads_of history) bytes → (fault : StartFault) → RefusesStart fault bytes
+  outside_of_journal : (bytes : List ℕ) (history : List Entry) → Legal history → IsJournal (payloads_of history) bytes → (fault : StartFault) → RefusesOpen fault bytes
       → IsOutside fault
   outside_of_journal bytes history legal journal starts.NotBegun refused = absurd (unrefused bytes (payloads_of history) mounts.NotBegun journal refused)
   outside_of_journal bytes history legal journal (starts.JournalBad at) refused = absurd (good bytes history at legal journal refused)
   outside_of_journal bytes history legal journal starts.Disk refused = tt
+  outside_of_journal bytes history legal journal starts.Clock refused = tt
+  outside_of_journal bytes history legal journal (starts.ClockRange reading) refused = tt
+  outside_of_journal bytes history legal journal starts.Full refused = tt
   outside_of_journal bytes history legal journal starts.NoMemory refused = tt
 
   outside_by : (bytes : List ℕ) (history : List Entry) (loose : Option Entry) → IsSound (held_as history loose) → IsImageOf history loose bytes → (fault : StartFault)
-      → RefusesStart fault bytes → IsOutside fault
+      → RefusesOpen fault bytes → IsOutside fault
   outside_by bytes history None sound is fault refused = outside_of_journal bytes history sound.legal is fault refused
   outside_by bytes history (Some entry) sound is fault refused = elim is [
     | inl same ↦ outside_of_journal bytes history sound.legal same fault refused
     | inr longer ↦ outside_of_journal bytes (history ++ entry ∷ []) (push history entry sound.legal sound.waits) longer fault refused
   ]
 
-  pub outside : (bytes : List ℕ) (before : Held) → IsSound before → IsImageOf before.history before.loose bytes → (fault : StartFault) → RefusesStart fault bytes
+  pub outside : (bytes : List ℕ) (before : Held) → IsSound before → IsImageOf before.history before.loose bytes → (fault : StartFault) → RefusesOpen fault bytes
       → IsOutside fault
   outside bytes before sound is fault refused = outside_by bytes before.history before.loose sound is fault refused
+
+-- a disk that tells its bytes isn't refused so
+pub untold : (told : Option (List ℕ)) → ((bytes : List ℕ) → told ≡ Some bytes → ⊥) → told ≡ None
+untold None refused = refl
+untold (Some bytes) refused = absurd (refused bytes refl)
+
+-- what the gate's history is, or this with the loose entry, isn't another one
+pub not_other : (old : Held) (history : List Entry) → Settles old history → IsOther old history → ⊥
+not_other old history settled other = elim settled [
+  | inl same ↦ other.0 same
+  | inr longer ↦ other.1 longer
+]
 
 -- ---- a whole call
 
@@ -101,6 +116,10 @@ extends_settled old history settled = elim settled [
   | inl same ↦ ([], same ∙ sym (append-nil old.history))
   | inr longer ↦ (option_to_list old.loose, longer)
 ]
+
+pub whole_on : (history : List Entry) (loose : Option Entry) → Extends history (whole_of history loose)
+whole_on history None = extends_same history
+whole_on history (Some entry) = (entry ∷ [], refl)
 
 some_extends : (history more : List Entry) → history ≢ [] → Extends history more → more ≢ []
 some_extends [] more some extends = absurd (some refl)
@@ -136,10 +155,6 @@ module _ (push : (history : List Entry) (entry : Entry) → Legal history → Fo
       → (image : List ℕ) (sent : List (List ℕ)) → LeftNow stops image sent → FindsLegal (IsSentOf old.history stops) old new image sent
   pair_legal old new stops sound stands on image sent left =
       pair_by (IsSentOf old.history stops) old.history old.loose new sound on image sent (stands image sent left) (λ given. given image sent left)
-
-  whole_on : (history : List Entry) (loose : Option Entry) → Extends history (whole_of history loose)
-  whole_on history None = extends_same history
-  whole_on history (Some entry) = (entry ∷ [], refl)
 
   -- the journal could not be mounted
   pub legal_still : (old new : Held) (first last : Stops) → new ≡ old → IsSound old → Stands old first → Stays first last

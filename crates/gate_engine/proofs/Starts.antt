@@ -9,17 +9,17 @@ use Rattle.gate_engine.specs.declared.fault.StartFault.TheVariants as starts
 use Rattle.gate_entries.specs.declared.entry.Entry.{Entry}
 use Rattle.gate_entries.specs.Spelling.{entry_bytes}
 use Rattle.gate_machine.specs.History.{payloads_of, journal_place, Follows, EachFollows}
-use Rattle.gate_engine.specs.Engine.{StraysAt, IsStartFault, RefusesStart, IsBadAt}
+use Rattle.gate_engine.specs.Engine.{StraysAt, IsStartFault, RefusesOpen, IsBadAt}
 
-pub refuses : (fault : MountFault) (answer : StartFault) (bytes : List ℕ) → IsStartFault fault answer → Refuses fault bytes → RefusesStart answer bytes
+pub refuses : (fault : MountFault) (answer : StartFault) (bytes : List ℕ) → IsStartFault fault answer → Refuses fault bytes → RefusesOpen answer bytes
 refuses mounts.NotBegun answer bytes is refused = rw is refused
 refuses (mounts.BadHead at) answer bytes is refused = rw is (inr (inl (record { fits = refused.0; breaks = refused.1 })))
 refuses (mounts.TooLong count) answer bytes is refused = rw is (inl (record { begun = refused.0; long = refused.2; place = refl }))
 refuses mounts.Disk answer bytes is refused = rw is tt
 refuses mounts.NoMemory answer bytes is refused = rw is refused
 
-pub bad : (fault : StartFault) (at : ℕ) (bytes : List ℕ) → fault ≡ starts.JournalBad at → RefusesStart fault bytes → IsBadAt bytes at
-bad fault at bytes is refused = subst (λ (f : StartFault). RefusesStart f bytes) is refused
+pub bad : (fault : StartFault) (at : ℕ) (bytes : List ℕ) → fault ≡ starts.JournalBad at → RefusesOpen fault bytes → IsBadAt bytes at
+bad fault at bytes is refused = subst (λ (f : StartFault). RefusesOpen f bytes) is refused
 
 -- a payload that is no entry which may come behind those before it
 pub strays : (payloads : List (List ℕ)) (history : List Entry) (payload : List ℕ) (rest : List (List ℕ)) (at : ℕ) → payloads ≡ payloads_of history ++ payload ∷ rest

@@ -22,18 +22,21 @@ use Rattle.gate_engine.specs.Engine.{Leaves, CarriesOut, ActsBy, AsksBy, GoesBy,
 use Rattle.gate_engine.specs.Kept.{Stands, IsSentOf, Keeps}
 use Rattle.gate_engine.proofs.Kept.{between_still, sent_still}
 
+-- the plant is left alone, and nothing is added
+pub keeps_same : (history : List Entry) (told : PlantTold) (stops : Stops) (new : Held) → Holds new history → Stands new stops → Stays stops stops
+    → Keeps (IsSentOf history stops) history told told stops stops new
+keeps_same history told stops new held stands still = record {
+  stands = stands;
+  recorded = sent_still history new stops held;
+  since = between_still history new stops held stands still;
+  later = omega arith;
+}
+
 -- a call that leaves the plant alone, and tells no fault of the disk
 leaves_same : (history : List Entry) (told : PlantTold) (stops : Stops) (reply : Reply) (new : Held) → reply ≢ DiskFault → Holds new history → Stands new stops
     → Stays stops stops → Leaves history told told stops stops reply new
-leaves_same history told stops reply new other held stands still = record {
-  keeps = record {
-    stands = stands;
-    recorded = sent_still history new stops held;
-    since = between_still history new stops held stands still;
-    later = omega arith;
-  };
-  cause = λ is. absurd (other is);
-}
+leaves_same history told stops reply new other held stands still =
+    record { keeps = keeps_same history told stops new held stands still; cause = λ is. absurd (other is) }
 
 memory_other : NoMemory ≢ DiskFault
 memory_other is = cc is
@@ -76,6 +79,14 @@ module _ (history : List Entry) (entry : Entry) (told told' : PlantTold) (stops 
     gives = same;
     does = inr (inl (is, held), refl);
     leaves = record { keeps = keeps; cause = λ fault. absurd (other fault) };
+  }
+
+  pub carries_unadded : Holds new history → CarriesOut (Write entry) history told told' stops stops' NoMemory new
+  carries_unadded held = record {
+    call = None;
+    gives = same;
+    does = inl (record { told = refl; uncalled = refl; held = held });
+    leaves = record { keeps = keeps; cause = λ is. absurd (memory_other is) };
   }
 
   pub carries_lost : Waits history entry new → Rose told.disk.faults told'.disk.faults → CarriesOut (Write entry) history told told' stops stops' DiskFault new

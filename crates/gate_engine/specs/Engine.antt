@@ -1,6 +1,5 @@
 -- What an engine keeps, and when it stands for a plant.
 use Rattle.std.specs.Prelude.{◌≡◌, ◌≢◌, ℕ, ◌<◌, ◌≤◌, ◌⊎◌, List, [], ◌∷◌, ◌++◌, length, Option, None, is_some, option_to_list, IfSome}
-use Rattle.gate_base.specs.declared.moment.Moment.{Moment}
 use Rattle.plant.specs.Plant.{PlantTold}
 use Rattle.plant.specs.Clock.{ClockTold}
 use Rattle.plant.specs.Entropy.{EntropyTold}
@@ -13,7 +12,6 @@ use Rattle.journal_core.specs.Mounting.{IsBegun, Refuses}
 use Rattle.plant.specs.Stops.{Stops}
 use Rattle.gate_entries.specs.declared.entry.Entry.{Entry}
 use Rattle.gate_entries.specs.Spelling.{entry_bytes}
-use Rattle.gate_entries.specs.Command.{settings_entry}
 use Rattle.gate_machine.specs.History.{payloads_of, journal_place, Follows, EachFollows, Legal}
 use Rattle.gate_engine.specs.Kept.{IsSentOf, Keeps}
 use Rattle.gate_base.specs.declared.sixteen.Sixteen.{Sixteen}
@@ -25,10 +23,6 @@ use Rattle.gate_machine.specs.Move.{Held, Holds, SignerCall, Given, Does, Acts, 
 use Rattle.gate_machine.specs.Step.{GivesCall, GivesDraw, Gives, Outside, State}
 use Rattle.gate_entries.specs.declared.reply.Reply.{Reply}
 use Rattle.gate_entries.specs.declared.reply.Reply.TheVariants as replies
-
--- the history that a journal begins with: settings without bytes, at this moment
-abbrev pub first_history : Moment → List Entry
-first_history moment = settings_entry 1 moment [] ∷ []
 
 -- the history is legal, the journal has the place and the chain of the history's, and is broken just where an entry is loose
 pub record Sound (journal : JournalState) (history : List Entry) (loose : Option Entry) : Type 0 where
@@ -133,22 +127,38 @@ pub record BreaksOff (bytes : List ℕ) (at : ℕ) : Type 0 where
 abbrev pub IsBadAt : List ℕ → ℕ → Type 0
 IsBadAt bytes at = IsTooLong bytes at ⊎ BreaksOff bytes at ⊎ IsOfNoHistory bytes at
 
--- what a refused start tells of the bytes. Memory is wanted only for bytes that begin as a journal does and aren't too long
-abbrev pub RefusesStart : StartFault → List ℕ → Type 0
-RefusesStart starts.NotBegun bytes = Refuses mounts.NotBegun bytes
-RefusesStart (starts.JournalBad at) bytes = IsBadAt bytes at
-RefusesStart starts.Disk bytes = Unit {0}
-RefusesStart starts.NoMemory bytes = Refuses mounts.NoMemory bytes
+-- why no journal was read, by its bytes. Memory is wanted only for bytes that begin as a journal does and aren't too long
+abbrev pub RefusesOpen : StartFault → List ℕ → Type 0
+RefusesOpen starts.Disk bytes = Unit {0}
+RefusesOpen starts.NotBegun bytes = Refuses mounts.NotBegun bytes
+RefusesOpen (starts.JournalBad at) bytes = IsBadAt bytes at
+RefusesOpen starts.Clock bytes = ⊥
+RefusesOpen (starts.ClockRange reading) bytes = ⊥
+RefusesOpen starts.Full bytes = ⊥
+RefusesOpen starts.NoMemory bytes = Refuses mounts.NoMemory bytes
+
+-- a fault that reading the journal may end with
+abbrev pub IsOpenFault : StartFault → Type 0
+IsOpenFault starts.Disk = Unit {0}
+IsOpenFault starts.NotBegun = Unit {0}
+IsOpenFault (starts.JournalBad at) = Unit {0}
+IsOpenFault starts.Clock = ⊥
+IsOpenFault (starts.ClockRange reading) = ⊥
+IsOpenFault starts.Full = ⊥
+IsOpenFault starts.NoMemory = Unit {0}
 
 -- a history that is neither the gate's nor this followed by the loose entry
 abbrev pub IsOther : Held → List Entry → Type 0
 IsOther held history = (history ≢ held.history) × (history ≢ held.history ++ option_to_list held.loose)
 
--- a fault of the disk or of the memory, which says nothing of the bytes
+-- a fault that says nothing against the journal's bytes
 abbrev pub IsOutside : StartFault → Type 0
+IsOutside starts.Disk = Unit {0}
 IsOutside starts.NotBegun = ⊥
 IsOutside (starts.JournalBad at) = ⊥
-IsOutside starts.Disk = Unit {0}
+IsOutside starts.Clock = Unit {0}
+IsOutside (starts.ClockRange reading) = Unit {0}
+IsOutside starts.Full = Unit {0}
 IsOutside starts.NoMemory = Unit {0}
 
 -- what a fault of the mount is for a start

@@ -172,6 +172,9 @@ impl Engine {
             Err(StartFault::NotBegun) => Err(Reply::JournalBad { at: 0 }),
             Err(StartFault::JournalBad { at }) => Err(Reply::JournalBad { at }),
             Err(StartFault::NoMemory) => Err(Reply::NoMemory),
+            Err(StartFault::Clock) => unreachable!(),
+            Err(StartFault::ClockRange { .. }) => unreachable!(),
+            Err(StartFault::Full) => unreachable!(),
         }
     }
 

@@ -11,6 +11,20 @@ pub enum StartFault {
     NotBegun,
     /// The bytes are no legal journal, from this place on.
     JournalBad { at: u64 },
+    /// Other settings are in force, and the clock gave no reading.
+    Clock,
+    /// Other settings are in force, and the clock's reading is out of range.
+    ClockRange { reading: u64 },
+    /// Other settings are in force, and the journal has no room for the new ones.
+    Full,
+    NoMemory,
+}
+
+/// Why an entry was not added.
+#[derive(Clone, Copy, Debug, PartialEq, Eq)]
+pub enum AddFault {
+    /// Its commit failed, and it is loose.
+    Disk,
     NoMemory,
 }
 

@@ -1,16 +1,18 @@
 //! An engine together with what it stands over.
-ghost use Rattle.std.specs.Prelude.{◌≡◌, ℕ, [], length, None, IfOk, IfErr};
+ghost use Rattle.std.specs.Prelude.{◌≡◌, ◌≢◌, ◌≤◌, ℕ, length, None, IfOk, IfErr};
 ghost use Rattle.std.specs.Option.{ForSome};
 ghost use Rattle.plant.specs.Causes.{Rose};
-ghost use Rattle.plant.specs.Joining.{Stays};
-ghost use Rattle.journal_core.specs.Journal.{IsJournal};
+ghost use Rattle.gate_settings.specs.Meaning.{IsReadable};
 ghost use Rattle.gate_entries.specs.Command.{IsCommand, IsCaller};
-ghost use Rattle.gate_machine.specs.History.{payloads_of};
-ghost use Rattle.gate_machine.specs.Move.{Held as HeldValue, IsSound, Settles};
+ghost use Rattle.gate_machine.specs.Commands.Settings.{AreInForce};
+ghost use Rattle.gate_machine.specs.History.{Legal};
+ghost use Rattle.gate_machine.specs.Move.{Held as HeldValue, IsSound, Extends};
 ghost use Rattle.gate_machine.specs.Step.{Step};
 ghost use Rattle.gate_engine.specs.Engine.{IsOutside, state_of};
 ghost use Rattle.gate_engine.specs.Gate.{Wrote};
 ghost use Rattle.gate_engine.specs.Kept.{Kept, KeepsLegal};
+ghost use Rattle.gate_engine.specs.Start.{Started, RefusesStart, KeepsDisk};
+ghost use Rattle.gate_engine.specs.Justified.{JustifiesSince, IsLeftBehind};
 
 use crate::answered::Said;
 use crate::engine::Engine;
@@ -50,17 +52,34 @@ impl<P: Plant, C: Clock, E: Entropy> Held<P, C, E> {
         entropy: E,
         settings: &[u8],
     ) -> Result<Held<P, C, E>, (P, C, E, StartFault)>
-        requires settings { settings.now ≡ [] }
+        requires readable { IsReadable settings.now }
         // Where the plant tells what a stop leaves, a gate left it so.
         requires kept { (before : HeldValue) × IsSound before × Kept before (P.stops plant) }
         ensures settled { IfOk result (λ gate. gate.held.loose ≡ None) }
-        ensures journal { IfOk result (λ gate. ForSome (P.told plant).disk.bytes (λ bytes. IsJournal (payloads_of gate.held.history) bytes)) }
-        ensures found { IfOk result (λ gate. ForSome (P.told plant).disk.bytes (λ bytes. (before : HeldValue) → IsSound before → Kept before (P.stops plant)
-            → Settles before gate.held.history)) }
-        ensures stays { IfOk result (λ gate. Stays (P.stops plant) (P.stops gate.plant)) }
-        ensures refused { IfErr result (λ parts. ForSome (P.told plant).disk.bytes (λ bytes. IsOutside parts.3)) }
+        ensures legal { IfOk result (λ gate. Legal gate.held.history) }
+        ensures in_force { IfOk result (λ gate. AreInForce settings.now gate.held.history) }
+        // The history is the one found, with an entry of the settings behind it just where others were in force.
+        ensures renewed { IfOk result (λ gate. Started settings.now (P.told plant) (P.told gate.plant) (P.stops plant) (P.stops gate.plant) (C.told clock) (C.told gate.clock) gate.held) }
+        ensures begins { IfOk result (λ gate. ForSome (P.told plant).disk.bytes (λ bytes. (before : HeldValue) → IsSound before → Kept before (P.stops plant)
+            → Extends before.history gate.held.history)) }
+        ensures draws { IfOk result (λ gate. gate.entropy ≡ entropy) }
+        // At every moment since then recovery finds a legal history that begins with the one that was left, and each body that the
+        // signer was sent has an entry of its own in it.
+        ensures headline { IfOk result (λ gate. (before : HeldValue) → IsSound before → Kept before (P.stops plant) → ForSome (P.told plant).disk.bytes
+            (λ bytes. JustifiesSince (Unit {0}) before.history (P.stops plant) (P.stops gate.plant))) }
+        ensures refused { IfErr result (λ parts. RefusesStart settings.now (P.told plant).disk.bytes (C.told clock) (C.told parts.1) parts.3) }
+        ensures good { IfErr result (λ parts. ForSome (P.told plant).disk.bytes (λ bytes. IsOutside parts.3)) }
+        ensures undrawn { IfErr result (λ parts. parts.2 ≡ entropy) }
+        ensures same { IfErr result (λ parts. parts.3 ≢ StartFault.Disk → KeepsDisk (P.told plant) (P.told parts.0) (P.stops plant) (P.stops parts.0)) }
         ensures disk { IfErr result (λ parts. parts.3 ≡ StartFault.Disk → Rose (P.told plant).disk.faults (P.told parts.0).disk.faults) }
-        ensures left { IfErr result (λ parts. Stays (P.stops plant) (P.stops parts.0)) }
+        ensures later { IfOk result (λ gate. (P.told plant).disk.faults ≤ (P.told gate.plant).disk.faults) }
+        ensures signer { IfOk result (λ gate. (P.told gate.plant).signer ≡ (P.told plant).signer) }
+        ensures unsigned { IfErr result (λ parts. (P.told parts.0).signer ≡ (P.told plant).signer) }
+        // Also of a refused start; and the next one works from what a gate left.
+        ensures headline_refused { IfErr result (λ parts. (before : HeldValue) → IsSound before → Kept before (P.stops plant) → ForSome (P.told plant).disk.bytes
+            (λ bytes. JustifiesSince (Unit {0}) before.history (P.stops plant) (P.stops parts.0))) }
+        ensures left { IfErr result (λ parts. (before : HeldValue) → IsSound before → Kept before (P.stops plant) → ForSome (P.told plant).disk.bytes
+            (λ bytes. IsLeftBehind before.history (P.stops parts.0))) }
     {
         match Engine::start(alloc, &mut plant, &mut clock, settings) {
             Ok(engine) => Ok(Held {

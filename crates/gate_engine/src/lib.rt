@@ -8,6 +8,7 @@ mod engine;
 mod fault;
 mod held;
 mod law;
+mod renewing;
 mod replaying;
 mod sending;
 mod starting;
@@ -18,17 +19,4 @@ pub use beginning::begin;
 pub use engine::Engine;
 pub use fault::StartFault;
 pub use held::Held;
-pub use law::one_history;
-
-#[cfg(test)]
-mod blocked;
-#[cfg(test)]
-mod fields;
-#[cfg(test)]
-mod finalized;
-#[cfg(test)]
-mod listed;
-#[cfg(test)]
-mod requests;
-#[cfg(test)]
-mod tests;
+pub use law::{one_history, what_a_run_keeps};

@@ -1,5 +1,5 @@
 //! How an entry is committed.
-ghost use Rattle.std.specs.Prelude.{◌≡◌, ◌+◌, ◌≤◌, ◌<◌, ◌⊎◌, None, [], ◌∷◌, ◌++◌, length, vec_len, vec_capacity, IfOk, OnErr, IsTrue, IsFalse};
+ghost use Rattle.std.specs.Prelude.{◌≡◌, ◌+◌, ◌≤◌, ◌<◌, ◌⊎◌, None, [], ◌∷◌, ◌++◌, length, vec_len, vec_capacity, IfOk, OnOk, IsErrOf, IsTrue, IsFalse};
 ghost use Rattle.plant.specs.Causes.{Rose};
 ghost use Rattle.gate_entries.specs.Spelling.{entry_bytes, IsEntry};
 ghost use Rattle.gate_machine.specs.History.{Follows};
@@ -7,8 +7,10 @@ ghost use Rattle.gate_machine.specs.Answer.{HasRoom, IsReadyToWrite};
 ghost use Rattle.gate_machine.specs.Move.{Holds, Waits};
 ghost use Rattle.gate_engine.specs.Engine.{CarriesOut, Sound, held_as};
 ghost use Rattle.gate_engine.specs.Kept.{Stands, IsSentOf, Keeps};
+ghost use Rattle.gate_engine.specs.Start.{KeepsDisk};
 
 use crate::engine::Engine;
+use crate::fault::AddFault;
 use gate_base::NoMemory;
 use gate_entries::{Entry, Reply, write_entry};
 use gate_machine::{Answer, one_entry_more, what_is_sent_is_recorded, written_reply};
@@ -77,21 +79,25 @@ pub fn commit<P: Plant>(
 }
 
 impl Engine {
-    /// Commits an entry; where the disk fails it is loose.
-    #[tactic(auto, using(crate::proofs::Steps::carries_written, crate::proofs::Steps::carries_lost))]
-    pub(crate) fn write<P: Plant>(&mut self, plant: &mut P, entry: Entry) -> Reply
+    /// Adds an entry at the end of the history; where the disk fails it is loose.
+    pub(crate) fn add<P: Plant>(&mut self, plant: &mut P, entry: Entry) -> Result<(), AddFault>
         requires settled { self.old.loose ≡ None }
         requires stands { Stands self.old (P.stops plant.old) }
         requires ready { IsReadyToWrite self.old.history entry }
-        ensures carries { CarriesOut (Answer.Write entry) self.old.history (P.told plant.old) (P.told plant.new) (P.stops plant.old) (P.stops plant.new) result self.new }
+        ensures added { OnOk result (Holds self.new (self.old.history ++ entry ∷ [])) }
+        ensures lost { IsErrOf result AddFault.Disk → Waits self.old.history entry self.new }
+        ensures memory { IsErrOf result AddFault.NoMemory → Holds self.new self.old.history }
+        ensures same { IsErrOf result AddFault.NoMemory → KeepsDisk (P.told plant.old) (P.told plant.new) (P.stops plant.old) (P.stops plant.new) }
+        ensures keeps { Keeps (IsSentOf self.old.history (P.stops plant.old)) self.old.history (P.told plant.old) (P.told plant.new) (P.stops plant.old) (P.stops plant.new) self.new }
+        ensures disk { IsErrOf result AddFault.Disk → Rose (P.told plant.old).disk.faults (P.told plant.new).disk.faults }
+        ensures signer { (P.told plant.new).signer ≡ (P.told plant.old).signer }
     {
         runs_join::<P>();
-        let reply = written_reply(&entry);
         let Ok(payload) = spell(self.alloc, &mut self.journal, &entry) else {
-            return Reply::NoMemory;
+            return Err(AddFault::NoMemory);
         };
         if self.history.reserve(1).is_err() {
-            return Reply::NoMemory;
+            return Err(AddFault::NoMemory);
         }
         if commit(
             &mut self.journal,
@@ -101,9 +107,25 @@ impl Engine {
             entry,
             &payload,
         ) {
-            reply
+            Ok(())
         } else {
-            Reply::DiskFault
+            Err(AddFault::Disk)
+        }
+    }
+
+    /// Commits an entry; where the disk fails it is loose.
+    #[tactic(auto, using(crate::proofs::Steps::carries_written, crate::proofs::Steps::carries_lost, crate::proofs::Steps::carries_unadded))]
+    pub(crate) fn write<P: Plant>(&mut self, plant: &mut P, entry: Entry) -> Reply
+        requires settled { self.old.loose ≡ None }
+        requires stands { Stands self.old (P.stops plant.old) }
+        requires ready { IsReadyToWrite self.old.history entry }
+        ensures carries { CarriesOut (Answer.Write entry) self.old.history (P.told plant.old) (P.told plant.new) (P.stops plant.old) (P.stops plant.new) result self.new }
+    {
+        let reply = written_reply(&entry);
+        match self.add(plant, entry) {
+            Ok(()) => reply,
+            Err(AddFault::Disk) => Reply::DiskFault,
+            Err(AddFault::NoMemory) => Reply::NoMemory,
         }
     }
 }

@@ -1,5 +1,5 @@
 -- How long spellings are.
-use Rattle.std.proofs.Common.{◌≡◌, ℕ, ◌+◌, ◌*◌, ◌^◌, ◌<◌, ◌≤◌, Bool, List, [], ◌∷◌, ◌++◌, length, Option, Some, None, subst, refl, ap, ◌∙◌, arith, length-append}
+use Rattle.std.proofs.Common.{◌≡◌, ℕ, ◌+◌, ◌*◌, ◌^◌, ◌<◌, ◌≤◌, Bool, true, List, [], ◌∷◌, ◌++◌, length, Option, Some, None, subst, refl, ap, ◌∙◌, arith, length-append}
 use Rattle.std.specs.Prelude.{IfSome, option_map, sum_by}
 use Rattle.std.specs.List.{flat_map, AllByRecursion}
 use Rattle.std.specs.Int.{w8, w16, w32, w64, to_be_bytes}
@@ -10,6 +10,7 @@ use Rattle.gate_base.specs.declared.moment.Moment.{Moment}
 use Rattle.gate_base.specs.declared.name.Address.TheVariants.{V4, V6}
 use Rattle.gate_base.specs.declared.name.Target.{Target}
 use Rattle.gate_base.specs.declared.name.Target.TheVariants.{Dns, Ip}
+use Rattle.gate_base.specs.declared.sixteen.Sixteen.{Sixteen}
 use Rattle.gate_entries.specs.declared.caller.Caller.{Caller}
 use Rattle.gate_entries.specs.declared.command.Command.{Command}
 use Rattle.gate_entries.specs.declared.command.Command.TheVariants as commands
@@ -30,6 +31,7 @@ use Rattle.gate_entries.specs.Field.{counted, truth, list_bytes, AreItems}
 use Rattle.gate_entries.specs.Kind.{kind_number, kind_of}
 use Rattle.gate_entries.specs.Target.{target_bytes, IsTarget}
 use Rattle.gate_entries.specs.Order.{order_bytes, IsOrder}
+use Rattle.gate_entries.specs.Challenge.{method_number, is_thumb_of, challenge_bytes, IsChallenge}
 use Rattle.gate_entries.specs.Observation.{text_bytes, hop_bytes, dns_bytes, web_bytes, seen_bytes, IsText, IsHop, IsDnsSeen, IsWebSeen, IsSeen, observation_bytes, IsObservation}
 use Rattle.gate_entries.specs.CaaAnswer.{row_bytes, answer_bytes, IsRow, IsAnswer, caa_bytes, IsCaa}
 use Rattle.gate_entries.specs.Numbered.{numbered_bytes}
@@ -276,6 +278,33 @@ pub signed_spelled : (number : ℕ) (moment : Moment) (caller : List ℕ) (order
 signed_spelled number moment caller order signature number_fits moment_fits order_fits from fits =
     let most : length signature < 2 ^ 16 = omega (arith, fits) in
     written_spelled number moment caller (whats.Signed order signature) number_fits moment_fits from tt (order_fits, most) (numbered_size order signature most)
+
+challenge_size : (key : List ℕ) (order : ℕ) (method : Method) (target : Target) (value : Sixteen) (thumb : List ℕ)
+    → IsChallenge key order method target value thumb → 17 + (2 + 64) + length (challenge_bytes key order method target value thumb) ≤ most_bytes
+challenge_size key order method target value thumb is =
+    let e1 = length-append (counted w8 key ++ to_be_bytes w64 order ++ (method_number method ∷ []) ++ target_bytes target ++ value.0) (counted w8 thumb) in
+    let e2 = length-append (counted w8 key ++ to_be_bytes w64 order ++ (method_number method ∷ []) ++ target_bytes target) value.0 in
+    let e3 = length-append (counted w8 key ++ to_be_bytes w64 order ++ (method_number method ∷ [])) (target_bytes target) in
+    let e4 = length-append (counted w8 key ++ to_be_bytes w64 order) (method_number method ∷ []) in
+    let e5 = length-append (counted w8 key) (to_be_bytes w64 order) in
+    let e6 = length-append (to_be_bytes w8 (length key)) key in
+    let e7 = length-append (to_be_bytes w8 (length thumb)) thumb in
+    omega (arith, e1, e2, e3, e4, e5, e6, e7, target_size target is.is_target, is.key_fits, is.value_size, is.thumb_fits)
+
+pub challenge_spelled : (number : ℕ) (moment : Moment) (caller key : List ℕ) (order : ℕ) (method : Method) (target : Target) (value : Sixteen) (thumb : List ℕ)
+    → number < 2 ^ 64 → moment.0 < 2 ^ 64 → order < 2 ^ 64 → length caller ≤ 64 → length key < 2 ^ 8 → IsTarget target → length value.0 ≡ 16
+    → length thumb < 2 ^ 8 → is_thumb_of method thumb ≡ true → IsEntry (entry_with number moment caller (whats.Challenge key order method target value thumb))
+challenge_spelled number moment caller key order method target value thumb number_fits moment_fits order_fits from key_fits is value_size thumb_fits is_thumb =
+    let what : IsChallenge key order method target value thumb = record {
+      key_fits = key_fits;
+      order_fits = order_fits;
+      is_target = is;
+      value_size = value_size;
+      thumb_fits = thumb_fits;
+      is_thumb = is_thumb;
+    } in
+    written_spelled number moment caller (whats.Challenge key order method target value thumb) number_fits moment_fits from tt what
+    (challenge_size key order method target value thumb what)
 
 pub settings_spelled : (number : ℕ) (moment : Moment) (bytes : List ℕ) → number < 2 ^ 64 → moment.0 < 2 ^ 64 → length bytes ≤ 1048576
     → IsEntry (settings_entry number moment bytes)

@@ -92,7 +92,10 @@ impl What {
 }
 
 impl Entry {
+    ghost use Rattle.std.specs.Prelude.{true};
+    ghost use Rattle.gate_entries.specs.Challenge.{is_thumb_of};
     ghost use Rattle.gate_entries.specs.Spelling.{IsEntry};
+    ghost use Rattle.gate_entries.specs.Target.{IsTarget};
     ghost use Rattle.gate_entries.specs.Command.{settings_entry, entry_with, IsCaller};
 
     /// The entry of settings, which are nobody's.
@@ -126,6 +129,73 @@ impl Entry {
                 bytes: Bytes::from_slice(alloc, bytes)?,
             },
         })
+    }
+
+    /// The entry of a challenge, whose value was drawn for it.
+    pub fn challenge(
+        alloc: Global,
+        number: u64,
+        moment: Moment,
+        caller: &Caller,
+        key: &Bytes,
+        order: u64,
+        method: Method,
+        target: &Target,
+        value: Sixteen,
+        thumb: &Bytes,
+    ) -> Result<Entry, NoMemory>
+        requires caller { IsCaller caller.now }
+        requires key { length key.now < 2 ^ 8 }
+        requires target { IsTarget target.now }
+        requires thumb { length thumb.now < 2 ^ 8 }
+        // The thumbprint of an account's key stands with `AcmeHttp` alone.
+        requires account { is_thumb_of method thumb.now ≡ true }
+        ensures entry { IfOk result (λ entry. entry ≡ entry_with number moment caller.now.id
+            (What.Challenge key.now order method target.now value thumb.now)) }
+        ensures spelled { IfOk result IsEntry }
+    {
+        let caller = caller.id.copied(alloc)?;
+        let key = key.copied(alloc)?;
+        let target = target.copied(alloc)?;
+        let thumb = thumb.copied(alloc)?;
+        Ok(Entry::made_challenge(
+            number, moment, caller, key, order, method, target, value, thumb,
+        ))
+    }
+
+    #[tactic(auto, using(crate::proofs::Sizes::challenge_spelled))]
+    fn made_challenge(
+        number: u64,
+        moment: Moment,
+        caller: Bytes,
+        key: Bytes,
+        order: u64,
+        method: Method,
+        target: Target,
+        value: Sixteen,
+        thumb: Bytes,
+    ) -> Entry
+        requires caller { length caller ≤ 64 }
+        requires key { length key < 2 ^ 8 }
+        requires target { IsTarget target }
+        requires thumb { length thumb < 2 ^ 8 }
+        requires account { is_thumb_of method thumb ≡ true }
+        ensures entry { result ≡ entry_with number moment caller (What.Challenge key order method target value thumb) }
+        ensures spelled { IsEntry result }
+    {
+        Entry {
+            number,
+            moment,
+            caller,
+            what: What::Challenge {
+                key,
+                order,
+                method,
+                target,
+                value,
+                thumb,
+            },
+        }
     }
 
     /// The entry of a body that is sent for an order.

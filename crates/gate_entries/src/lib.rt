@@ -21,6 +21,7 @@ mod observation;
 mod order;
 mod plain;
 mod reading;
+mod reasons;
 mod reply;
 mod room;
 mod seen;
@@ -39,6 +40,3 @@ pub use reading::read_entry;
 pub use reply::{Reply, Why, Whys};
 pub use room::put_signed;
 pub use writing::write_entry;
-
-#[cfg(test)]
-mod tests;

@@ -9,3 +9,4 @@ pub mod Steps
 pub mod Serials
 pub mod LeastRule
 pub mod Rows
+pub mod InForce

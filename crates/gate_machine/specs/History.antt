@@ -8,7 +8,10 @@ use Rattle.journal_core.specs.Journal.{gate_place, total_of}
 use Rattle.gate_base.specs.declared.moment.Moment.{Moment}
 use Rattle.gate_machine.specs.declared.place.Place.{Place}
 use Rattle.gate_machine.specs.Sight.{moment_of}
+use Rattle.gate_machine.specs.Commands.Settings.{SettingsCome}
 use Rattle.gate_machine.specs.Commands.Order.{OrderComes}
+use Rattle.gate_machine.specs.Commands.Observe.{ObservationComes}
+use Rattle.gate_machine.specs.Commands.ObserveCaa.{CaaComes}
 use Rattle.gate_machine.specs.Commands.Block.{BlockComes}
 use Rattle.gate_machine.specs.Commands.Finalize.{ComesToSigner, ComesSigned}
 pub use Rattle.gate_machine.specs.Commands.Finalize.{IsSignature}
@@ -20,14 +23,14 @@ first_moment = 1757894400
 abbrev pub last_moment : ℕ
 last_moment = 4102444799
 
--- what each kind asks of the entries before it: the settings stand first, are nobody's, and are empty so far;
--- an order and a blocked key come under a new key. Challenges, observations and CAA answers have no place in a history as yet
+-- what each kind asks of the entries before it; all but settings come behind other entries. Challenges have no place in a history as
+-- yet, and so no observation has one either
 abbrev pub MeetsRow : List Entry → List ℕ → Moment → What → Type 0
-MeetsRow before caller moment (Settings bytes) = (before ≡ []) × (caller ≡ []) × (bytes ≡ [])
+MeetsRow before caller moment (Settings bytes) = SettingsCome before caller bytes
 MeetsRow before caller moment (Order key common days targets request) = OrderComes before caller key common days targets request
 MeetsRow before caller moment (Challenge key order method target value thumb) = ⊥
-MeetsRow before caller moment (Observation key challenge seen_at seen) = ⊥
-MeetsRow before caller moment (CaaAnswer key order target seen_at answers) = ⊥
+MeetsRow before caller moment (Observation key challenge seen_at seen) = ObservationComes before caller moment key challenge seen_at
+MeetsRow before caller moment (CaaAnswer key order target seen_at answers) = CaaComes before caller moment key order target seen_at
 MeetsRow before caller moment (Blocked key spki) = BlockComes before caller key spki
 MeetsRow before caller moment (Send order body) = ComesToSigner before caller order body
 MeetsRow before caller moment (Signed order signature) = ComesSigned before caller moment order signature

@@ -10,6 +10,7 @@ pub mod Commands
 pub mod History
 pub mod Ends
 pub mod Answer
+pub mod Renewal
 pub mod Move
 pub mod Step
 pub mod Serials

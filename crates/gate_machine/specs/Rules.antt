@@ -1,5 +1,5 @@
 -- What the rules on fields share: retry keys, and the least rule that is broken.
-use Rattle.std.specs.Prelude.{ℕ, ◌≤◌, List, length, Bool, IsFalse, nat_lt, nat_le, ◌&&◌, Option, Some, None}
+use Rattle.std.specs.Prelude.{◌≡◌, ℕ, ◌≤◌, List, length, Bool, IsFalse, nat_lt, nat_le, ◌&&◌, Option, Some, None}
 use Rattle.std.specs.List.{list_all}
 
 -- ---- retry keys
@@ -14,6 +14,10 @@ is_key key = nat_lt 0 (length key) && nat_le (length key) 64 && list_all is_key_
 
 abbrev pub HasBadKey : List ℕ → Type 0
 HasBadKey key = IsFalse (is_key key)
+
+-- F01 alone
+abbrev pub KeyBreaks : List ℕ → ℕ → Type 0
+KeyBreaks key rule = (rule ≡ 1) × HasBadKey key
 
 -- ---- the least rule
 

@@ -49,7 +49,8 @@ fn fitted(history: &[Entry], journal: &Journal, answer: Answer) -> Answer
     }
 }
 
-fn fitted_entry(history: &[Entry], journal: &Journal, entry: Entry) -> Answer
+/// The entry, or that the journal has no room for it.
+pub fn fitted_entry(history: &[Entry], journal: &Journal, entry: Entry) -> Answer
     requires place { journal.now.at ≡ journal_place history.now }
     requires follows { Follows history.now entry }
     ensures ends { EndsFull history.now (Answer.Write entry) result }

@@ -4,7 +4,10 @@ ghost use Rattle.gate_machine.specs.History.{MeetsRow, Follows, IsInOrder, EachF
 
 use crate::commands::block::block_comes;
 use crate::commands::finalize::{comes_signed, comes_to_signer};
+use crate::commands::observe::observation_comes;
+use crate::commands::observe_caa::caa_comes;
 use crate::commands::order::order_comes;
+use crate::commands::settings::settings_come;
 use crate::place::{FIRST_MOMENT, LAST_MOMENT, last_moment};
 use gate_base::{Bytes, Moment, NoMemory};
 use gate_entries::{Entry, What};
@@ -51,9 +54,7 @@ fn meets_row(
     ensures { IfOk result (λ meets. IsTrue meets ↔ MeetsRow before.now caller.now moment what.now) }
 {
     match what {
-        What::Settings { bytes } => {
-            Ok(before.is_empty() && caller.is_empty() && bytes.is_empty())
-        }
+        What::Settings { bytes } => settings_come(alloc, before, caller, bytes),
         What::Order {
             key,
             common,
@@ -61,8 +62,21 @@ fn meets_row(
             targets,
             request,
         } => order_comes(alloc, before, caller, key, *common, *days, targets, request),
-        // Challenges, observations and CAA answers have no place in a history as yet.
-        What::Challenge { .. } | What::Observation { .. } | What::CaaAnswer { .. } => Ok(false),
+        // Challenges have no place in a history as yet.
+        What::Challenge { .. } => Ok(false),
+        What::Observation {
+            key,
+            challenge,
+            seen_at,
+            ..
+        } => Ok(observation_comes(before, caller, moment, key, *challenge, *seen_at)),
+        What::CaaAnswer {
+            key,
+            order,
+            target,
+            seen_at,
+            ..
+        } => Ok(caa_comes(before, caller, moment, key, *order, target, *seen_at)),
         What::Send { order, body } => comes_to_signer(alloc, before, caller, *order, body),
         What::Signed { order, signature } => {
             Ok(comes_signed(before, caller, moment, *order, signature))

@@ -1,5 +1,13 @@
 //! What holds of all histories, moves and steps, for the proofs above.
-ghost use Rattle.std.specs.Prelude.{◌≡◌, ◌≢◌, ℕ, ◌+◌, List, [], ◌∷◌, ◌++◌, None, true};
+ghost use Rattle.std.specs.Prelude.{◌≡◌, ◌≢◌, ℕ, ◌+◌, List, [], ◌∷◌, ◌++◌, None, true, slice_get};
+ghost use Rattle.std.specs.Option.{IsSomeAnd};
+ghost use Rattle.gate_settings.specs.Meaning.{IsReadable};
+ghost use Rattle.evidence_index.specs.Lookups.{is_settings};
+ghost use Rattle.evidence_index.specs.Noting.{AreSound};
+ghost use Rattle.gate_entries.specs.Command.{settings_entry};
+ghost use Rattle.gate_machine.specs.Answer.{IsInRange};
+ghost use Rattle.gate_machine.specs.Commands.Settings.{AreInForce};
+ghost use Rattle.gate_machine.specs.Renewal.{first_history};
 ghost use Rattle.plant.specs.Causes.{Rose};
 ghost use Rattle.gate_entries.specs.declared.entry.Entry.{Entry as EntryValue};
 ghost use Rattle.gate_entries.specs.declared.caller.Caller.{Caller as CallerValue};
@@ -13,6 +21,7 @@ ghost use Rattle.gate_machine.specs.Sends.{is_send_for, order_in, body_in, signe
 ghost use Rattle.gate_machine.specs.Serials.{HasOneOrderEach};
 ghost use Rattle.gate_machine.specs.History.{IsSignature, entry_total, journal_place, Follows, EachFollows, Legal};
 
+use evidence_index::some_settings_are_in_force;
 use journal_core::one_group_more;
 
 /// A history with one entry more.
@@ -59,6 +68,22 @@ pub fn what_is_sent_is_recorded()
     ensures more { (sent : List (List ℕ)) (history more : List EntryValue) → Within sent (bodies_of history) → Within sent (bodies_of (history ++ more)) }
     ensures sends { (sent : List (List ℕ)) (history : List EntryValue) (entry : EntryValue) → is_send_for (order_in entry.what) entry.what ≡ true
         → Within sent (bodies_of history) → Within (sent ++ body_in entry.what ∷ []) (bodies_of (history ++ entry ∷ [])) }
+{}
+
+/// A legal history begins with settings, some are in force in it, and those are readable. What it keeps is sound: its settings are
+/// readable, and what was seen was seen before the year 36,000.
+pub fn settings_come_into_force()
+    ensures first { (history : List EntryValue) → Legal history → IsSomeAnd (slice_get history 0) (λ entry. is_settings entry.what ≡ true) }
+    ensures last { (history : List EntryValue) → Legal history → (bytes : List ℕ) × AreInForce bytes history × IsReadable bytes }
+    ensures sound { (history : List EntryValue) → EachFollows [] history → AreSound history }
+{
+    some_settings_are_in_force();
+}
+
+/// Readable settings may stand alone, at a moment that a clock may give.
+pub fn settings_begin_a_history()
+    ensures { (moment : ℕ) (bytes : List ℕ) → IsEntry (settings_entry 1 (record { 0 = moment }) bytes) → IsInRange moment → IsReadable bytes
+        → Legal (first_history moment bytes) }
 {}
 
 /// Every front of a legal history but the empty one is legal.

@@ -65,7 +65,7 @@ fn are_distinct(targets: &[Target]) -> bool
 }
 
 /// Whether a target is one of these.
-fn is_among(target: &Target, targets: &[Target]) -> bool
+pub fn is_among(target: &Target, targets: &[Target]) -> bool
     ensures among { IsTrue result ↔ IsAmong target.now targets.now }
     ensures none { AllByRecursion (λ other. other ≢ target.now) targets.now ↔ (result ≡ false) }
 {

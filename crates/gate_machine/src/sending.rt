@@ -4,7 +4,7 @@ ghost use Rattle.std.specs.Option.{option_copied};
 ghost use Rattle.gate_machine.specs.Sends as sends;
 ghost use Rattle.gate_machine.specs.Sends.{TellsSixteen};
 
-use gate_base::{Bytes, Sixteen};
+use gate_base::{Bytes, Sixteen, Target};
 use gate_entries::{Entry, What};
 
 /// The caller's own order with this number.
@@ -26,6 +26,16 @@ pub fn is_order(what: &What) -> bool
     ensures { result ≡ sends.is_order what.now }
 {
     matches!(what, What::Order { .. })
+}
+
+/// The targets of an order; none where the entry is no order.
+pub fn targets_of(what: &What) -> &[Target]
+    ensures { result.now ≡ sends.targets_of what.now }
+{
+    match what {
+        What::Order { targets, .. } => targets.as_slice(),
+        _ => &[],
+    }
 }
 
 /// The first entry that sent a body for the order.

@@ -1,5 +1,5 @@
 //! What a caller sees of the history.
-ghost use Rattle.std.specs.Prelude.{◌≡◌};
+ghost use Rattle.std.specs.Prelude.{◌≡◌, ◌≢◌, ◌↔◌, [], None, IsTrue};
 ghost use Rattle.std.specs.Option.{option_copied};
 ghost use Rattle.gate_machine.specs.Keys as keys;
 ghost use Rattle.gate_machine.specs.Sight as sight;
@@ -13,6 +13,13 @@ pub fn find_kept<'a>(history: &'a [Entry], caller: &Bytes, key: &Bytes) -> Optio
     ensures { option_copied result ≡ keys.kept_for caller.now key.now history.now }
 {
     history.iter().find(|entry| is_under(entry, caller, key))
+}
+
+/// Whether there are entries, and none stands under the caller's key.
+pub fn is_new_key(before: &[Entry], caller: &Bytes, key: &Bytes) -> bool
+    ensures { IsTrue result ↔ ((before.now ≢ []) × (keys.kept_for caller.now key.now before.now ≡ None)) }
+{
+    !before.is_empty() && find_kept(before, caller, key).is_none()
 }
 
 fn is_under(entry: &Entry, caller: &Bytes, key: &Bytes) -> bool

@@ -1,4 +1,4 @@
-pub mod Headline
+pub mod Conf
 pub mod Session
 pub mod Run
 pub mod Exit

@@ -2,9 +2,7 @@
 
 use crate::running::run;
 use crate::status::Status;
-use crate::tests::{
-    BEGUN, CLOSED, HEAD, MOMENT, ORDER, PLACED, Pieces, SETTINGS, WITH_ORDER, joined, word_alone,
-};
+use crate::tests::{Disk as Holds, MOMENT, ORDER, PLACED, TEXT, joined, pieces_of, word_alone};
 use gate_base::{Bytes, Sequence};
 use plant::{Calls, Fail, ListClock, ListEntropy, MemoryPlant, MemorySink, MemorySource};
 use std::alloc::Global;
@@ -44,10 +42,12 @@ enum Failing {
 
 use Failing::{Disk, Nothing, Put, Settings, Take};
 
-/// All that the program reads and writes in both of its runs.
+/// How often a word takes from the settings: all of their bytes, and the end.
+const SETTINGS_CALLS: u64 = 2;
+
+/// All that the program reads and writes in both of its runs, but for the settings, which each word reads anew.
 #[derive(Drop)]
 struct Outside {
-    settings: MemorySource,
     plant: MemoryPlant,
     clock: ListClock,
     source: MemorySource,
@@ -55,10 +55,16 @@ struct Outside {
 }
 
 /// How `begin` and the session end, the replies to both messages, and what the disk holds.
-type Left = (Status, Status, &'static [u8], &'static [u8], Pieces);
+type Left = (Status, Status, &'static [u8], &'static [u8], Holds);
 
 fn one_call(rt: &impl Abort, alloc: Global, call: u64) -> Calls {
     Sequence::from_slice(alloc, &[call]).expect(rt, "memory")
+}
+
+/// The settings, of which the call with this number fails.
+fn settings_of(rt: &impl Abort, alloc: Global, call: u64) -> MemorySource {
+    let text = Bytes::from_slice(alloc, TEXT).expect(rt, "memory");
+    MemorySource::new(text, one_call(rt, alloc, call))
 }
 
 fn failing_plant(rt: &impl Abort, alloc: Global, call: u64) -> MemoryPlant {
@@ -73,17 +79,15 @@ fn failing_outside(
     readings: &[Option<u64>],
 ) -> Outside {
     // 0 is no call
-    let (disk, settings, take, put) = match failing {
-        Nothing => (0, 0, 0, 0),
-        Disk(call) => (call, 0, 0, 0),
-        Settings(call) => (0, call, 0, 0),
-        Take(call) => (0, 0, call, 0),
-        Put(call) => (0, 0, 0, call),
+    let (disk, take, put) = match failing {
+        Nothing | Settings(_) => (0, 0, 0),
+        Disk(call) => (call, 0, 0),
+        Take(call) => (0, call, 0),
+        Put(call) => (0, 0, call),
     };
     let readings = Sequence::from_slice(alloc, readings).expect(rt, "memory");
     let messages = Bytes::from_vec(joined(rt, alloc, &[ORDER, ORDER]));
     Outside {
-        settings: MemorySource::new(Bytes::new(alloc), one_call(rt, alloc, settings)),
         plant: failing_plant(rt, alloc, disk),
         clock: ListClock::new(readings),
         source: MemorySource::new(messages, one_call(rt, alloc, take)),
@@ -91,13 +95,27 @@ fn failing_outside(
     }
 }
 
-fn status_of(rt: &impl Abort, alloc: Global, outside: &mut Outside, word: &str) -> Status {
+/// The call of the settings that fails, over both words; 0 is none.
+fn settings_call(failing: Failing) -> u64 {
+    match failing {
+        Settings(call) => call,
+        Nothing | Disk(_) | Take(_) | Put(_) => 0,
+    }
+}
+
+fn status_of(
+    rt: &impl Abort,
+    alloc: Global,
+    settings: &mut MemorySource,
+    outside: &mut Outside,
+    word: &str,
+) -> Status {
     let words = word_alone(rt, alloc, word);
     let mut entropy = ListEntropy::new(Sequence::new(alloc));
     run(
         alloc,
         words.as_slice(),
-        &mut outside.settings,
+        settings,
         &mut outside.plant,
         &mut outside.clock,
         &mut entropy,
@@ -109,12 +127,21 @@ fn status_of(rt: &impl Abort, alloc: Global, outside: &mut Outside, word: &str) 
 /// A first run over such an outside leaves exactly this, and nothing was sent to the signer.
 fn leaves(rt: &impl Abort, alloc: Global, failing: Failing, readings: &[Option<u64>], left: Left) {
     let (begun, ended, first, second, disk) = left;
+    let call = settings_call(failing);
+    let mut to_begin = settings_of(rt, alloc, call);
+    let mut to_hold = settings_of(rt, alloc, call.saturating_sub(SETTINGS_CALLS));
     let mut outside = failing_outside(rt, alloc, failing, readings);
-    assert_eq!(rt; status_of(rt, alloc, &mut outside, "begin"), begun);
-    assert_eq!(rt; status_of(rt, alloc, &mut outside, "session"), ended);
+    assert_eq!(rt;
+        status_of(rt, alloc, &mut to_begin, &mut outside, "begin"),
+        begun
+    );
+    assert_eq!(rt;
+        status_of(rt, alloc, &mut to_hold, &mut outside, "session"),
+        ended
+    );
     let replies = joined(rt, alloc, &[first, second]);
     assert_eq!(rt; outside.sink.bytes(), replies.as_slice());
-    let disk = joined(rt, alloc, disk);
+    let disk = joined(rt, alloc, pieces_of(disk));
     assert_eq!(rt; outside.plant.disk(), disk.as_slice());
     assert_eq!(rt; outside.plant.sent().len(), 0);
     assert_eq!(rt; outside.plant.short(), 0);
@@ -138,7 +165,13 @@ const TOO_LATE_TO_BEGIN: Status = Status::ClockRange {
     reading: LAST_MOMENT + 1,
 };
 
-const NOT_BEGUN: Left = (Status::DiskFault, Status::NotBegun, NO_REPLY, NO_REPLY, &[]);
+const NOT_BEGUN: Left = (
+    Status::DiskFault,
+    Status::NotBegun,
+    NO_REPLY,
+    NO_REPLY,
+    Holds::Nothing,
+);
 
 /// No entry stands in the file.
 const NO_ENTRY: Status = Status::JournalBad { at: 16 };
@@ -149,7 +182,7 @@ const BLANK: Left = (
     NO_ENTRY,
     NO_REPLY,
     NO_REPLY,
-    &[HEAD, CLOSED],
+    Holds::Blank,
 );
 
 /// And the group behind it.
@@ -158,15 +191,21 @@ const UNOPENED: Left = (
     NO_ENTRY,
     NO_REPLY,
     NO_REPLY,
-    &[HEAD, CLOSED, SETTINGS, CLOSED],
+    Holds::Unopened,
 );
 
-const UNMOUNTED: Left = (Status::Ok, Status::DiskFault, NO_REPLY, NO_REPLY, BEGUN);
+const UNMOUNTED: Left = (
+    Status::Ok,
+    Status::DiskFault,
+    NO_REPLY,
+    NO_REPLY,
+    Holds::Begun,
+);
 
 /// The second message settles what became of the first one's order.
-const SETTLED: Left = (Status::Ok, Status::Ok, DISK_FAULT, PLACED, WITH_ORDER);
+const SETTLED: Left = (Status::Ok, Status::Ok, DISK_FAULT, PLACED, Holds::WithOrder);
 
-const WELL: Left = (Status::Ok, Status::Ok, PLACED, PLACED, WITH_ORDER);
+const WELL: Left = (Status::Ok, Status::Ok, PLACED, PLACED, Holds::WithOrder);
 
 /// Which call fails, the readings of the clock, and what is left.
 const FAULTS: &[(Failing, &[Option<u64>], Left)] = &[
@@ -180,7 +219,13 @@ const FAULTS: &[(Failing, &[Option<u64>], Left)] = &[
     (
         Disk(7),
         &[NOW],
-        (Status::DiskFault, Status::Ok, PLACED, PLACED, WITH_ORDER),
+        (
+            Status::DiskFault,
+            Status::Ok,
+            PLACED,
+            PLACED,
+            Holds::WithOrder,
+        ),
     ),
     // The mount: a sync, the length, the head, the groups.
     (Disk(8), &[NOW], UNMOUNTED),
@@ -194,28 +239,38 @@ const FAULTS: &[(Failing, &[Option<u64>], Left)] = &[
     (Disk(15), &[NOW], SETTLED),
     // There are no more calls.
     (Disk(16), &[NOW], WELL),
-    // The settings: once for each word.
+    // The settings, for each word: all of their bytes, and the end.
     (
         Settings(1),
         &[NOW],
-        (UNREAD, Status::NotBegun, NO_REPLY, NO_REPLY, &[]),
+        (UNREAD, Status::NotBegun, NO_REPLY, NO_REPLY, Holds::Nothing),
     ),
     (
         Settings(2),
         &[NOW],
-        (Status::Ok, UNREAD, NO_REPLY, NO_REPLY, BEGUN),
+        (UNREAD, Status::NotBegun, NO_REPLY, NO_REPLY, Holds::Nothing),
     ),
-    (Settings(3), &[NOW], WELL),
+    (
+        Settings(3),
+        &[NOW],
+        (Status::Ok, UNREAD, NO_REPLY, NO_REPLY, Holds::Begun),
+    ),
+    (
+        Settings(4),
+        &[NOW],
+        (Status::Ok, UNREAD, NO_REPLY, NO_REPLY, Holds::Begun),
+    ),
+    (Settings(5), &[NOW], WELL),
     // The messages: all of their bytes, and the end.
     (
         Take(1),
         &[NOW],
-        (Status::Ok, CUT_OFF, NO_REPLY, NO_REPLY, BEGUN),
+        (Status::Ok, CUT_OFF, NO_REPLY, NO_REPLY, Holds::Begun),
     ),
     (
         Take(2),
         &[NOW],
-        (Status::Ok, CUT_OFF, PLACED, PLACED, WITH_ORDER),
+        (Status::Ok, CUT_OFF, PLACED, PLACED, Holds::WithOrder),
     ),
     (Take(3), &[NOW], WELL),
     // The replies: one for each message.
@@ -227,13 +282,19 @@ const FAULTS: &[(Failing, &[Option<u64>], Left)] = &[
             Status::WriteFault,
             NO_REPLY,
             NO_REPLY,
-            WITH_ORDER,
+            Holds::WithOrder,
         ),
     ),
     (
         Put(2),
         &[NOW],
-        (Status::Ok, Status::WriteFault, PLACED, NO_REPLY, WITH_ORDER),
+        (
+            Status::Ok,
+            Status::WriteFault,
+            PLACED,
+            NO_REPLY,
+            Holds::WithOrder,
+        ),
     ),
     (Put(3), &[NOW], WELL),
     // The clock: a reading fails.
@@ -245,18 +306,30 @@ const FAULTS: &[(Failing, &[Option<u64>], Left)] = &[
             Status::NotBegun,
             NO_REPLY,
             NO_REPLY,
-            &[],
+            Holds::Nothing,
         ),
     ),
     (
         Nothing,
         &[NOW, None, NOW],
-        (Status::Ok, Status::Ok, CLOCK_FAULT, PLACED, WITH_ORDER),
+        (
+            Status::Ok,
+            Status::Ok,
+            CLOCK_FAULT,
+            PLACED,
+            Holds::WithOrder,
+        ),
     ),
     (
         Nothing,
         &[NOW, NOW, None],
-        (Status::Ok, Status::Ok, PLACED, CLOCK_FAULT, WITH_ORDER),
+        (
+            Status::Ok,
+            Status::Ok,
+            PLACED,
+            CLOCK_FAULT,
+            Holds::WithOrder,
+        ),
     ),
     // A reading is out of range.
     (
@@ -267,23 +340,29 @@ const FAULTS: &[(Failing, &[Option<u64>], Left)] = &[
             Status::NotBegun,
             NO_REPLY,
             NO_REPLY,
-            &[],
+            Holds::Nothing,
         ),
     ),
     (
         Nothing,
         &[LATE, NOW, NOW],
-        (TOO_LATE_TO_BEGIN, Status::NotBegun, NO_REPLY, NO_REPLY, &[]),
+        (
+            TOO_LATE_TO_BEGIN,
+            Status::NotBegun,
+            NO_REPLY,
+            NO_REPLY,
+            Holds::Nothing,
+        ),
     ),
     (
         Nothing,
         &[NOW, EARLY, NOW],
-        (Status::Ok, Status::Ok, TOO_EARLY, PLACED, WITH_ORDER),
+        (Status::Ok, Status::Ok, TOO_EARLY, PLACED, Holds::WithOrder),
     ),
     (
         Nothing,
         &[NOW, NOW, LATE],
-        (Status::Ok, Status::Ok, PLACED, TOO_LATE, WITH_ORDER),
+        (Status::Ok, Status::Ok, PLACED, TOO_LATE, Holds::WithOrder),
     ),
     // A reading below the last moment: the moment stays.
     (

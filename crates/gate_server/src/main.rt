@@ -1,11 +1,12 @@
 //! The program `gate JOURNAL CONF SIGNER WORDS`: begins a journal, or answers a session's messages.
 #![tactic(auto)]
 
+mod conf;
 #[cfg(test)]
 mod faults;
-mod law;
 mod opening;
 mod reasons;
+mod rule_texts;
 mod running;
 mod session;
 mod status;

@@ -21,6 +21,7 @@ pub fn run_program(rt: &HostRuntime) -> ExitCode {
             let paths = Paths {
                 journal: "/",
                 settings: "",
+                begins: false,
             };
             tell(rt, paths, Status::DiskFault, Why::System(error));
             Status::DiskFault
@@ -42,6 +43,7 @@ fn run_words(rt: &HostRuntime) -> Status {
     let paths = Paths {
         journal: journal.as_str(),
         settings: settings.as_str(),
+        begins: begins(words),
     };
     let (status, why) = match read_signer(rt, signer.as_str()) {
         Ok(signer) => open_and_run(rt, paths, signer, words),
@@ -56,6 +58,7 @@ fn refused(rt: &HostRuntime, status: Status) -> Status {
     let paths = Paths {
         journal: "",
         settings: "",
+        begins: false,
     };
     tell(rt, paths, status, Why::Unknown);
     status
@@ -110,8 +113,12 @@ fn open_and_run(
     run_over(rt, FilePlant::new(rt, journal, signer), settings, words)
 }
 
+fn begins(words: &[String]) -> bool {
+    matches!(words, [word] if word.as_str() == "begin")
+}
+
 fn open_journal(rt: &HostRuntime, path: &str, words: &[String]) -> Result<JournalFile, FileFault> {
-    if matches!(words, [word] if word.as_str() == "begin") {
+    if begins(words) {
         JournalFile::create(rt, rt.alloc(), path)
     } else {
         JournalFile::open(rt, path)
@@ -125,10 +132,6 @@ fn run_over(
     settings: File,
     words: &[String],
 ) -> (Status, Why) {
-    let length = match settings.metadata() {
-        Ok(found) => found.len(),
-        Err(_) => 0,
-    };
     let mut conf = StdSource::new(settings);
     let mut source = StdSource::new(rt.stdin());
     let mut sink = StdSink::new(rt.stdout());
@@ -149,7 +152,6 @@ fn run_over(
         Status::ReadFault { settings: true } => why_system(conf.last_fault()),
         Status::ReadFault { settings: false } => why_system(source.last_fault()),
         Status::WriteFault => why_system(sink.last_fault()),
-        Status::NotBuilt if length > 0 => Why::SettingsHave(length),
         _ => Why::Unknown,
     };
     (status, why)

@@ -1,19 +1,18 @@
 //! What is printed on standard error: the line `gate: STATUS`, and behind it, indented by two spaces, why.
 
+use crate::rule_texts::rule_text;
 use crate::status::Status;
 use journal_core::FIRST_GATE;
 use plant::FileFault;
 use std::io::{self, ErrorKind};
 
-/// The two paths among the words.
+/// What of the words a cause may tell: the two paths, and whether a journal was to be begun.
 #[derive(Clone, Copy)]
 pub struct Paths<'a> {
     pub journal: &'a str,
     pub settings: &'a str,
+    pub begins: bool,
 }
-
-/// The length of a journal that was begun with empty settings.
-const BEGUN_LENGTH: u64 = 77;
 
 /// What is known of the cause beside the status.
 #[derive(Clone, Copy)]
@@ -25,8 +24,6 @@ pub enum Why {
     System(io::Error),
     /// What is wrong with the journal's file.
     File(FileFault),
-    /// The settings have so many bytes.
-    SettingsHave(u64),
 }
 
 /// Prints the lines of a status; Ok has none. Where standard error can't be written, nothing is told.
@@ -38,11 +35,11 @@ pub fn tell(rt: &HostRuntime, paths: Paths<'_>, status: Status, why: Why) {
     let _ = eprintln!(rt; "gate: {name}");
     let _ = match status {
         Status::Usage => tell_usage(rt, why),
-        Status::DiskFault => tell_disk(rt, paths.journal, why),
+        Status::SettingsBad { rule, item } => tell_rule(rt, paths.settings, rule, item),
+        Status::DiskFault => tell_disk(rt, paths, why),
         Status::ReadFault { settings: true } => tell_system(rt, paths.settings, why),
         Status::ReadFault { settings: false } => tell_system(rt, "standard input", why),
         Status::WriteFault => tell_system(rt, "standard output", why),
-        Status::NotBuilt => tell_not_built(rt, paths.settings, why),
         _ => tell_rest(rt, paths.journal, status),
     };
 }
@@ -60,11 +57,12 @@ fn tell_usage(rt: &HostRuntime, why: Why) -> io::Result<()> {
     }
 }
 
-fn tell_disk(rt: &HostRuntime, path: &str, why: Why) -> io::Result<()> {
+fn tell_disk(rt: &HostRuntime, paths: Paths<'_>, why: Why) -> io::Result<()> {
+    let path = paths.journal;
     match why {
         Why::File(FileFault::System(error)) | Why::System(error) => {
             eprintln!(rt; "  {path}: {error}")?;
-            tell_help(rt, error.kind())
+            tell_help(rt, error.kind(), paths.begins)
         }
         Why::File(FileFault::NotRegular) => eprintln!(rt; "  {path}: it is no regular file"),
         Why::File(FileFault::Locked) => eprintln!(rt; "  {path}: another gate has the journal"),
@@ -83,11 +81,16 @@ fn tell_disk(rt: &HostRuntime, path: &str, why: Why) -> io::Result<()> {
     }
 }
 
-fn tell_help(rt: &HostRuntime, kind: ErrorKind) -> io::Result<()> {
+fn tell_help(rt: &HostRuntime, kind: ErrorKind, begins: bool) -> io::Result<()> {
     match kind {
         ErrorKind::NotFound => {
             eprintln!(rt;
                 "  no journal was begun there: begin creates the file, but not its folder"
+            )
+        }
+        ErrorKind::StorageFull | ErrorKind::QuotaExceeded if begins => {
+            eprintln!(rt;
+                "  there is no room, and no journal was begun: make room, remove the file, and begin again"
             )
         }
         ErrorKind::StorageFull | ErrorKind::QuotaExceeded => {
@@ -106,17 +109,16 @@ fn tell_system(rt: &HostRuntime, what: &str, why: Why) -> io::Result<()> {
     }
 }
 
-fn tell_not_built(rt: &HostRuntime, path: &str, why: Why) -> io::Result<()> {
-    match why {
-        Why::SettingsHave(length) => {
-            eprintln!(rt;
-                "  {path}: it has {length} bytes, and only empty settings are read so far"
-            )
-        }
-        _ => eprintln!(rt;
-            "  standard input: the bytes behind the last reply's message are no message"
-        ),
+fn tell_rule(rt: &HostRuntime, path: &str, rule: u8, item: u64) -> io::Result<()> {
+    let text = rule_text(rule);
+    let broken = text.broken;
+    eprintln!(rt; "  {path}: it breaks S{rule:02}: {broken}")?;
+    let counts = text.counts;
+    if item > 0 && !counts.is_empty() {
+        eprintln!(rt; "  the first is {counts} {item}")?;
     }
+    let remedy = text.remedy;
+    eprintln!(rt; "  {remedy}")
 }
 
 fn tell_bad(rt: &HostRuntime, path: &str, at: u64) -> io::Result<()> {
@@ -125,9 +127,9 @@ fn tell_bad(rt: &HostRuntime, path: &str, at: u64) -> io::Result<()> {
         return Ok(());
     }
     eprintln!(rt;
-        "  where it has at most {BEGUN_LENGTH} bytes, a begin was stopped: remove the file, and begin again"
+        "  where no session was answered over it, its begin was stopped: remove the file, and begin again"
     )?;
-    eprintln!(rt; "  where it has more, it is damaged: keep it")
+    eprintln!(rt; "  otherwise it is damaged: keep it")
 }
 
 fn tell_rest(rt: &HostRuntime, path: &str, status: Status) -> io::Result<()> {
@@ -141,6 +143,9 @@ fn tell_rest(rt: &HostRuntime, path: &str, status: Status) -> io::Result<()> {
             )
         }
         Status::JournalBad { at } => tell_bad(rt, path, at),
+        Status::NotBuilt => eprintln!(rt;
+            "  standard input: what stands next is no message, or no caller has its token"
+        ),
         Status::StreamLong => eprintln!(rt;
             "  standard input: 1073741824 bytes came without an end"
         ),
@@ -149,6 +154,10 @@ fn tell_rest(rt: &HostRuntime, path: &str, status: Status) -> io::Result<()> {
             eprintln!(rt;
                 "  the system's clock reads {reading} seconds since 1970: before 2025-09-15 or after 2099-12-31"
             )
+        }
+        Status::Full => {
+            eprintln!(rt; "  {path}: the journal has no room for the changed settings")?;
+            eprintln!(rt; "  with the settings that it ends with a session still answers")
         }
         Status::NoMemory => eprintln!(rt; "  out of memory"),
         _ => Ok(()),

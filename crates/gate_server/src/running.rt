@@ -1,24 +1,25 @@
 //! The top call: all that the program does, over whatever outside it is given.
-ghost use Rattle.std.specs.Prelude.{◌≡◌, ◌≢◌, ◌≤◌, ◌⊎◌, [], length, map, string_bytes, IfSome};
+ghost use Rattle.std.specs.Prelude.{◌≡◌, ◌≢◌, ◌⊎◌, [], Some, map, string_bytes};
 ghost use Rattle.std.specs.Option.{ForSome};
-ghost use Rattle.std.specs.Io.KnownBytes.{IsAtEnd};
-ghost use Rattle.plant.specs.Causes.{Rose};
 ghost use Rattle.plant.specs.Joining.{Stays};
 ghost use Rattle.gate_server.specs.declared.running.Word.{Word as WordValue};
 ghost use Rattle.gate_machine.specs.Answer.{IsInRange};
 ghost use Rattle.gate_machine.specs.Move.{Held as HeldValue, IsSound};
 ghost use Rattle.gate_engine.specs.Kept.{Kept};
-ghost use Rattle.gate_server.specs.Headline.{JustifiesSince, IsLeftBehind};
-ghost use Rattle.gate_server.specs.Run.{IsWord, IsStartStatus, RefusesSettings, outside_of, HoldsSession, RunsSession, BeginsJournal, RunsBegin, Begins, Runs};
+ghost use Rattle.gate_engine.specs.Justified.{JustifiesSince, IsLeftBehind};
+ghost use Rattle.gate_settings.specs.Meaning.{IsReadable, settings_of};
+ghost use Rattle.gate_server.specs.Conf.{RefusesSettings};
+ghost use Rattle.gate_server.specs.Run.{IsWord, IsStartStatus, outside_of, HoldsSession, RunsSession, BeginsJournal, SettledBegin, Begins, Runs};
 
-use crate::law::what_a_run_keeps;
+use crate::conf::{Conf, read_conf};
 use crate::session::answer_messages;
 use crate::status::Status;
 use gate_base::Moment;
-use gate_engine::{Engine, StartFault, begin};
+use gate_engine::{Engine, StartFault, begin, what_a_run_keeps};
 use gate_machine::what_steps_keep;
+use gate_settings::each_id_is_short;
 use journal_core::BeginFault;
-use plant::{Clock, ClockFault, Entropy, Plant, Sink, Source, TakeFault, runs_join};
+use plant::{Clock, ClockFault, Entropy, Plant, Sink, Source, runs_join};
 use std::alloc::Global;
 
 /// The first and the last moment that a clock may give: 2025-09-15T00:00:00Z and 2099-12-31T23:59:59Z.
@@ -79,28 +80,6 @@ fn read_words(words: &[String]) -> Word
     }
 }
 
-/// What the settings' source gave.
-#[derive(Clone, Copy)]
-enum Settings {
-    Empty,
-    NotEmpty,
-    Fault,
-}
-
-/// The settings are empty so far.
-fn read_settings<F: Source>(conf: &mut F) -> Settings
-    ensures fault { result ≡ Settings.Fault → Rose (F.told conf.old).faults (F.told conf.new).faults }
-    ensures none { result ≡ Settings.Empty → IsAtEnd (F.told conf.old).left }
-    ensures some { result ≡ Settings.NotEmpty → IfSome (F.told conf.old).left (λ left. 1 ≤ length left) }
-{
-    let mut piece = [0; 1];
-    match conf.take(&mut piece) {
-        Ok(0) => Settings::Empty,
-        Ok(_) => Settings::NotEmpty,
-        Err(TakeFault) => Settings::Fault,
-    }
-}
-
 fn run_begin<F: Source, P: Plant, C: Clock>(
     alloc: Global,
     conf: &mut F,
@@ -109,20 +88,25 @@ fn run_begin<F: Source, P: Plant, C: Clock>(
 ) -> Status
     ensures does { (RefusesSettings (F.told conf.old) (F.told conf.new) result × (P.told plant.new ≡ P.told plant.old) × Stays (P.stops plant.old) (P.stops plant.new)
         × (C.told clock.new ≡ C.told clock.old))
-        ⊎ (IsAtEnd (F.told conf.old).left × BeginsJournal (P.told plant.old) (P.told plant.new) (P.stops plant.old) (P.stops plant.new) (C.told clock.old) (C.told clock.new) result) }
+        ⊎ SettledBegin (F.told conf.old) (P.told plant.old) (P.told plant.new) (P.stops plant.old) (P.stops plant.new) (C.told clock.old) (C.told clock.new) result }
     ensures stays { ForSome (P.told plant.old).disk.bytes (λ bytes. bytes ≢ [] → Stays (P.stops plant.old) (P.stops plant.new)) }
     ensures signer { (P.told plant.new).signer ≡ (P.told plant.old).signer }
 {
     runs_join::<P>();
-    match read_settings(conf) {
-        Settings::Empty => begin_journal(alloc, plant, clock),
-        Settings::NotEmpty => Status::NotBuilt,
-        Settings::Fault => Status::ReadFault { settings: true },
+    match read_conf(alloc, conf) {
+        Ok(conf) => begin_journal(alloc, plant, clock, &conf.bytes),
+        Err(status) => status,
     }
 }
 
-fn begin_journal<P: Plant, C: Clock>(alloc: Global, plant: &mut P, clock: &mut C) -> Status
-    ensures begins { BeginsJournal (P.told plant.old) (P.told plant.new) (P.stops plant.old) (P.stops plant.new) (C.told clock.old) (C.told clock.new) result }
+fn begin_journal<P: Plant, C: Clock>(
+    alloc: Global,
+    plant: &mut P,
+    clock: &mut C,
+    settings: &[u8],
+) -> Status
+    requires { IsReadable settings.now }
+    ensures begins { BeginsJournal settings.now (P.told plant.old) (P.told plant.new) (P.stops plant.old) (P.stops plant.new) (C.told clock.old) (C.told clock.new) result }
     ensures stays { ForSome (P.told plant.old).disk.bytes (λ bytes. bytes ≢ [] → Stays (P.stops plant.old) (P.stops plant.new)) }
     ensures signer { (P.told plant.new).signer ≡ (P.told plant.old).signer }
 {
@@ -134,16 +118,17 @@ fn begin_journal<P: Plant, C: Clock>(alloc: Global, plant: &mut P, clock: &mut C
     if reading < FIRST_MOMENT || LAST_MOMENT < reading {
         return Status::ClockRange { reading };
     }
-    begin_at(alloc, plant, reading)
+    begin_at(alloc, plant, reading, settings)
 }
 
-fn begin_at<P: Plant>(alloc: Global, plant: &mut P, reading: u64) -> Status
-    requires { IsInRange reading }
-    ensures begins { Begins reading (P.told plant.old) (P.told plant.new) (P.stops plant.old) (P.stops plant.new) result }
+fn begin_at<P: Plant>(alloc: Global, plant: &mut P, reading: u64, settings: &[u8]) -> Status
+    requires range { IsInRange reading }
+    requires readable { IsReadable settings.now }
+    ensures begins { Begins settings.now reading (P.told plant.old) (P.told plant.new) (P.stops plant.old) (P.stops plant.new) result }
     ensures stays { ForSome (P.told plant.old).disk.bytes (λ bytes. bytes ≢ [] → Stays (P.stops plant.old) (P.stops plant.new)) }
     ensures signer { (P.told plant.new).signer ≡ (P.told plant.old).signer }
 {
-    match begin(alloc, plant, Moment(reading)) {
+    match begin(alloc, plant, Moment(reading), settings) {
         Ok(()) => Status::Ok,
         Err(BeginFault::Disk) => Status::DiskFault,
         Err(BeginFault::NotEmpty { length }) => Status::NotEmpty { length },
@@ -170,14 +155,13 @@ fn run_session<F: Source, P: Plant, C: Clock, E: Entropy, S: Source, K: Sink>(
 {
     runs_join::<P>();
     what_a_run_keeps::<P>();
-    match read_settings(conf) {
-        Settings::Empty => hold_session(alloc, plant, clock, entropy, source, sink),
-        Settings::NotEmpty => Status::NotBuilt,
-        Settings::Fault => Status::ReadFault { settings: true },
+    match read_conf(alloc, conf) {
+        Ok(conf) => hold_session(alloc, plant, clock, entropy, source, sink, &conf),
+        Err(status) => status,
     }
 }
 
-#[tactic(auto, using(crate::proofs::Runs::refused_of))]
+#[tactic(auto, using(crate::proofs::Runs::refused_of, crate::proofs::Talks::caller_is_short))]
 fn hold_session<P: Plant, C: Clock, E: Entropy, S: Source, K: Sink>(
     alloc: Global,
     plant: &mut P,
@@ -185,8 +169,11 @@ fn hold_session<P: Plant, C: Clock, E: Entropy, S: Source, K: Sink>(
     entropy: &mut E,
     source: &mut S,
     sink: &mut K,
+    conf: &Conf,
 ) -> Status
-    ensures holds { HoldsSession
+    requires readable { IsReadable conf.now.bytes.items }
+    requires says { settings_of conf.now.bytes.items ≡ Some conf.now.settings }
+    ensures holds { HoldsSession conf.now.bytes.items
         (outside_of (P.told plant.old) (P.stops plant.old) (C.told clock.old) (E.told entropy.old) (S.told source.old) (K.told sink.old))
         (outside_of (P.told plant.new) (P.stops plant.new) (C.told clock.new) (E.told entropy.new) (S.told source.new) (K.told sink.new)) result }
     ensures headline { (before : HeldValue) → IsSound before → Kept before (P.stops plant.old) → ForSome (P.told plant.old).disk.bytes
@@ -196,8 +183,18 @@ fn hold_session<P: Plant, C: Clock, E: Entropy, S: Source, K: Sink>(
 {
     what_steps_keep();
     what_a_run_keeps::<P>();
-    match Engine::start(alloc, plant, clock, &[]) {
-        Ok(mut engine) => answer_messages(alloc, &mut engine, plant, clock, entropy, source, sink),
+    each_id_is_short();
+    match Engine::start(alloc, plant, clock, &conf.bytes) {
+        Ok(mut engine) => answer_messages(
+            alloc,
+            &mut engine,
+            plant,
+            clock,
+            entropy,
+            source,
+            sink,
+            &conf.settings.callers,
+        ),
         Err(fault) => start_status(fault),
     }
 }
@@ -209,6 +206,9 @@ fn start_status(fault: StartFault) -> Status
         StartFault::Disk => Status::DiskFault,
         StartFault::NotBegun => Status::NotBegun,
         StartFault::JournalBad { at } => Status::JournalBad { at },
+        StartFault::Clock => Status::ClockFault,
+        StartFault::ClockRange { reading } => Status::ClockRange { reading },
+        StartFault::Full => Status::Full,
         StartFault::NoMemory => Status::NoMemory,
     }
 }

@@ -1,39 +1,41 @@
 //! A session: one message after another is asked and answered.
-ghost use Rattle.std.specs.Prelude.{◌≡◌, ◌≤◌, IfOk};
-ghost use Rattle.gate_entries.specs.Command.{IsCommand};
+ghost use Rattle.std.specs.Prelude.{◌≡◌, ◌≤◌, Some, IfSome, IfOk};
+ghost use Rattle.gate_entries.specs.Command.{IsCaller};
 ghost use Rattle.gate_machine.specs.History.{Legal};
 ghost use Rattle.gate_machine.specs.Sends.{HasOneBodyEach};
 ghost use Rattle.gate_machine.specs.Serials.{HasOneOrderEach};
-ghost use Rattle.gate_machine.specs.Step.{Step};
-ghost use Rattle.gate_engine.specs.Engine.{state_of};
 ghost use Rattle.gate_engine.specs.Kept.{Stands, IsSentOf};
 ghost use Rattle.gate_machine.specs.Move.{IsSound};
 ghost use Rattle.wire_front.specs.Stream.{most_taken};
 ghost use Rattle.wire_front.specs.Reply.{text_of};
-ghost use Rattle.gate_server.specs.Headline.{JustifiesSince};
-ghost use Rattle.gate_server.specs.Session.{acme, talk_of, begun, Turns, PutsReply, Ended};
+ghost use Rattle.gate_engine.specs.Justified.{JustifiesSince};
+ghost use Rattle.gate_server.specs.Session as spec;
+ghost use Rattle.gate_server.specs.Session.{talk_of, begun, Turns, PutsReply, Ended};
 
-use crate::law::what_a_run_keeps;
 use crate::status::Status;
-use gate_base::{Bytes, NoMemory, Role};
-use gate_engine::Engine;
-use gate_entries::{Caller, Command, Reply};
+use gate_base::{NoMemory, Plain};
+use gate_engine::{Engine, what_a_run_keeps};
+use gate_entries::{Caller, Reply};
 use gate_machine::what_steps_keep;
+use gate_settings::Callers;
 use plant::{Clock, Entropy, Plant, PutFault, Sink, Source, runs_join};
 use std::alloc::Global;
 use wire_front::{Stream, Taken, one_passing, reply_text};
 
-/// The one account so far.
-const ACCOUNT: &[u8] = b"acme";
+/// The token that the messages of both forms bear.
+const TOKEN: &[u8] = b"acme-token";
 
-fn account(alloc: Global) -> Result<Caller, NoMemory>
-    ensures { IfOk result (λ caller. caller ≡ acme) }
+/// The caller of the messages, if one has their token.
+fn caller_in(alloc: Global, callers: &Callers) -> Result<Option<Caller>, NoMemory>
+    ensures { IfOk result (λ caller. caller ≡ spec.caller_in callers.now) }
 {
-    let id = Bytes::from_slice(alloc, ACCOUNT)?;
-    Ok(Caller {
-        id,
-        role: Role::Account,
-    })
+    match callers.find(TOKEN) {
+        Some(row) => Ok(Some(Caller {
+            id: row.id.copied(alloc)?,
+            role: row.role,
+        })),
+        None => Ok(None),
+    }
 }
 
 /// Answers the source's messages into the sink.
@@ -45,9 +47,11 @@ pub fn answer_messages<P: Plant, C: Clock, E: Entropy, S: Source, K: Sink>(
     entropy: &mut E,
     source: &mut S,
     sink: &mut K,
+    callers: &Callers,
 ) -> Status
-    requires { Stands engine.old (P.stops plant.old) }
-    ensures ended { Ended result
+    requires stands { Stands engine.old (P.stops plant.old) }
+    requires caller { IfSome (spec.caller_in callers.now) IsCaller }
+    ensures ended { Ended callers.now result
         (talk_of engine.old (P.told plant.old) (C.told clock.old) (E.told entropy.old) begun (S.told source.old) (K.told sink.old))
         engine.new (P.told plant.new) (C.told clock.new) (E.told entropy.new) (S.told source.new) (K.told sink.new) }
     ensures since { JustifiesSince (IsSentOf engine.old.history (P.stops plant.old)) engine.old.history (P.stops plant.old) (P.stops plant.new) }
@@ -63,8 +67,10 @@ pub fn answer_messages<P: Plant, C: Clock, E: Entropy, S: Source, K: Sink>(
     what_a_run_keeps::<P>();
     runs_join::<P>();
     engine.keeps_a_legal_history();
-    let Ok(caller) = account(alloc) else {
-        return Status::NoMemory;
+    let caller = match caller_in(alloc, callers) {
+        Ok(Some(caller)) => caller,
+        Ok(None) => return Status::NotBuilt,
+        Err(NoMemory) => return Status::NoMemory,
     };
     let mut stream = Stream::new(alloc);
     loop {
@@ -74,6 +80,7 @@ pub fn answer_messages<P: Plant, C: Clock, E: Entropy, S: Source, K: Sink>(
             plant,
             clock,
             entropy,
+            callers,
             &caller,
             &mut stream,
             source,
@@ -93,14 +100,16 @@ fn turn<P: Plant, C: Clock, E: Entropy, S: Source, K: Sink>(
     plant: &mut P,
     clock: &mut C,
     entropy: &mut E,
+    callers: &Callers,
     caller: &Caller,
     stream: &mut Stream,
     source: &mut S,
     sink: &mut K,
 ) -> Result<(), Status>
     requires stands { Stands engine.old (P.stops plant.old) }
-    requires caller { caller.now ≡ acme }
-    ensures turns { Turns result
+    requires caller { spec.caller_in callers.now ≡ Some caller.now }
+    requires spelled { IsCaller caller.now }
+    ensures turns { Turns callers.now result
         (talk_of engine.old (P.told plant.old) (C.told clock.old) (E.told entropy.old) stream.old (S.told source.old) (K.told sink.old))
         (talk_of engine.new (P.told plant.new) (C.told clock.new) (E.told entropy.new) stream.new (S.told source.new) (K.told sink.new)) }
     ensures fits { stream.new.taken ≤ most_taken }
@@ -121,31 +130,8 @@ fn turn<P: Plant, C: Clock, E: Entropy, S: Source, K: Sink>(
         Taken::StreamLong => return Err(Status::StreamLong),
         Taken::NoMemory => return Err(Status::NoMemory),
     };
-    let reply = ask_account(engine, plant, clock, entropy, caller, &command);
+    let reply = engine.ask(plant, clock, entropy, caller, &command);
     put_reply(alloc, sink, &reply)
-}
-
-/// Asks a command as the one account.
-#[tactic(auto, using(crate::proofs::Talks::asked_as))]
-fn ask_account<P: Plant, C: Clock, E: Entropy>(
-    engine: &mut Engine,
-    plant: &mut P,
-    clock: &mut C,
-    entropy: &mut E,
-    caller: &Caller,
-    command: &Command,
-) -> Reply
-    requires stands { Stands engine.old (P.stops plant.old) }
-    requires caller { caller.now ≡ acme }
-    requires command { IsCommand command.now }
-    ensures step { Step (state_of engine.old (P.told plant.old) (C.told clock.old) (E.told entropy.old)) acme command.now result
-        (state_of engine.new (P.told plant.new) (C.told clock.new) (E.told entropy.new)) }
-    ensures since { JustifiesSince (IsSentOf engine.old.history (P.stops plant.old)) engine.old.history (P.stops plant.old) (P.stops plant.new) }
-    ensures stands { Stands engine.new (P.stops plant.new) }
-    ensures kept { IsSentOf engine.old.history (P.stops plant.old) → IsSentOf engine.new.history (P.stops plant.new) }
-{
-    what_a_run_keeps::<P>();
-    engine.ask(plant, clock, entropy, caller, command)
 }
 
 fn put_reply<K: Sink>(alloc: Global, sink: &mut K, reply: &Reply) -> Result<(), Status>

@@ -9,7 +9,9 @@ pub enum Status {
     Ok,
     /// The words are none that are known.
     Usage,
-    /// The settings aren't empty, or bytes are no message of the one form.
+    /// The settings break the rule of this number, at this item, and none with a lesser number.
+    SettingsBad { rule: u8, item: u64 },
+    /// Bytes are no message of the two forms, or no caller has the token of these.
     NotBuilt,
     /// The disk has no journal's head.
     NotBegun,
@@ -23,6 +25,8 @@ pub enum Status {
     WriteFault,
     /// So many bytes were taken without an end.
     StreamLong,
+    /// The journal has no room for the changed settings.
+    Full,
     ClockFault,
     /// The clock gave a reading before 2025-09-15 or after 2099-12-31.
     ClockRange { reading: u64 },
@@ -37,6 +41,7 @@ impl Status {
         match self {
             Status::Ok => 0,
             Status::Usage => 2,
+            Status::SettingsBad { .. } => 3,
             Status::NotBegun => 4,
             Status::NotEmpty { .. } => 5,
             Status::JournalBad { .. } => 6,
@@ -46,6 +51,7 @@ impl Status {
             Status::StreamLong => 12,
             Status::ClockFault => 15,
             Status::ClockRange { .. } => 16,
+            Status::Full => 17,
             Status::NoMemory => 20,
             Status::NotBuilt => 21,
         }
@@ -58,6 +64,7 @@ impl Status {
         match self {
             Status::Ok => "Ok",
             Status::Usage => "Usage",
+            Status::SettingsBad { .. } => "SettingsBad",
             Status::NotBegun => "NotBegun",
             Status::NotEmpty { .. } => "NotEmpty",
             Status::JournalBad { .. } => "JournalBad",
@@ -67,6 +74,7 @@ impl Status {
             Status::StreamLong => "StreamLong",
             Status::ClockFault => "ClockFault",
             Status::ClockRange { .. } => "ClockRange",
+            Status::Full => "Full",
             Status::NoMemory => "NoMemory",
             Status::NotBuilt => "NotBuilt",
         }

@@ -4,4 +4,5 @@ mod Meaning
 mod Panels
 mod Readable
 mod Rows
+mod ShortRows
 mod Toml

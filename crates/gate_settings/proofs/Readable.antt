@@ -1,5 +1,5 @@
 -- Which bytes are readable settings.
-use Rattle.std.proofs.Common.{ℕ, List}
+use Rattle.std.proofs.Common.{ℕ, ◌<◌, ◌≤◌, List, length, refl, arith}
 use Rattle.cert_fields.specs.Profile.{IsSoundProfile}
 use Rattle.gate_settings.specs.declared.rule.Rule.{Rule}
 use Rattle.gate_settings.specs.declared.rule.Rule.TheVariants.{S01, S02, S03, S04, S05, S06, S07, S08, S09, S10, S11, S12}
@@ -28,5 +28,10 @@ is_readable bytes settings says sound kept = record { kept = kept; settings = se
 
 pub is_unreadable : (bytes : List ℕ) (rule : Rule) (item : ℕ) → Breaks bytes rule item → ¬ (IsReadable bytes)
 is_unreadable bytes rule item broken readable = kept_at (Breaks bytes) rule readable.kept item broken
+
+pub readable_short : (bytes : List ℕ) → IsReadable bytes → length bytes ≤ 1048576
+readable_short bytes readable =
+    let kept : ¬ (1048576 < length bytes) = λ long. kept_at (Breaks bytes) S01 readable.kept 0 (long, refl) in
+    omega (arith, kept)
 
 pub ruleset readable = (is_readable, is_unreadable)

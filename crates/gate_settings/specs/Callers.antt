@@ -1,5 +1,5 @@
 -- Who may call: the rows that the callers' tables give, each judged after those before it.
-use Rattle.std.specs.Prelude.{◌≡◌, ℕ, ◌+◌, ◌<◌, ◌==◌, Bool, true, false, not, ◌&&◌, ◌||◌, List, [], ◌∷◌, ◌++◌, length, nat_le, Option, Some, None, option_map, unwrap_or, Result, Ok, Err, if◌then◌else◌}
+use Rattle.std.specs.Prelude.{◌≡◌, ◌⊎◌, ℕ, ◌+◌, ◌<◌, ◌≤◌, ◌==◌, Bool, true, false, not, ◌&&◌, ◌||◌, List, [], ◌∷◌, ◌++◌, length, nat_le, Option, Some, None, option_map, unwrap_or, Result, Ok, Err, if◌then◌else◌}
 use Rattle.std.specs.List.{list_all, list_any, find, slice_get}
 use Rattle.std.specs.Str.{bytes_eq}
 use Rattle.std.specs.Char.{is_ascii_alphanumeric}
@@ -67,6 +67,14 @@ abbrev pub rows_from : List PerspectiveTable → List CallerTable → List Calle
 rows_from perspectives before [] = Ok []
 rows_from perspectives before (caller ∷ callers) =
     row_before (length before + 1) (row_of perspectives before caller) (rows_from perspectives (before ++ caller ∷ []) callers)
+
+-- an id and a token of 1 to 64 bytes, and a thumbprint that is empty or has 43
+pub record IsShortRow (row : CallerRow) : Type 0 where
+  pub id_some : 1 ≤ length row.id
+  pub id_short : length row.id ≤ 64
+  pub token_some : 1 ≤ length row.token
+  pub token_short : length row.token ≤ 64
+  pub thumb : (row.thumb ≡ []) ⊎ (length row.thumb ≡ 43)
 
 -- the rows of all callers, or the place of the first that offends
 unfoldable pub rows_of : List PerspectiveTable → List CallerTable → Result (List CallerRow) ℕ

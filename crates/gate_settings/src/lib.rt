@@ -20,9 +20,6 @@ mod words;
 
 pub use callers::Callers;
 pub use fault::SettingsFault;
-pub use laws::one_settings;
+pub use laws::{each_id_is_short, one_settings, readable_settings_are_short};
 pub use row::CallerRow;
 pub use settings::{Settings, read_settings};
-
-#[cfg(test)]
-mod tests;

@@ -13,6 +13,3 @@ pub use corroboration::quorum;
 pub use fault::PanelFault;
 pub use panel::Panel;
 pub use perspective::{Perspective, Region};
-
-#[cfg(test)]
-mod tests;

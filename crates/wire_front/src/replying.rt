@@ -1,12 +1,14 @@
 //! The bytes of a reply.
-ghost use Rattle.std.specs.Prelude.{◌≡◌, ◌≤◌, ◌<◌, IfOk, string_bytes};
-ghost use Rattle.gate_entries.specs.declared.reply.Reply.TheVariants.{Issued, EntropyRepeat, Refused};
-ghost use Rattle.wire_front.specs.Reply.{status_of, reason_of, byte_hex, hex_of, base64_of, reason_json, reasons_json, json_of, status_line, header_lines, response_of, text_of};
+ghost use Rattle.std.specs.Prelude.{◌≡◌, ◌≤◌, ◌<◌, ◌++◌, IfOk, OnOk, string_bytes};
+ghost use Rattle.gate_entries.specs.declared.reply.Reply.TheVariants.{ChallengeMade, ObservationLate, Issued, EntropyRepeat, Refused};
+ghost use Rattle.names_core.specs.Target.{target_text};
+ghost use Rattle.wire_front.specs.Reply.{status_of, reason_of, byte_hex, hex_of, base64_of, character_json, text_json, name_json, named_json, counted_json, dropped_json, dated_json, tagged_json, reason_json, reasons_json, json_of, status_line, header_lines, response_of, text_of};
 
 use base64::engine::general_purpose::STANDARD;
-use gate_base::{Bytes, Sixteen};
+use gate_base::{Bytes, Moment, Sixteen, Target};
 use gate_entries::{Reply, Why};
 use http::StatusCode;
+use names_core::target_text;
 use std::alloc::{AllocError, Global};
 
 /// The reply as the bytes of an HTTP/1.1 response.
@@ -48,11 +50,15 @@ fn status_of(reply: &Reply) -> u16
     ensures { result ≡ status_of reply.now }
 {
     match reply {
-        Reply::Placed { .. } | Reply::Issued { .. } | Reply::Blocked { .. } => 200,
+        Reply::Placed { .. }
+        | Reply::ChallengeMade { .. }
+        | Reply::Observed { .. }
+        | Reply::Issued { .. }
+        | Reply::Blocked { .. } => 200,
         Reply::RoleDenied => 403,
-        Reply::NoSuchOrder => 404,
+        Reply::NoSuchOrder | Reply::NoSuchChallenge => 404,
         Reply::KeyReused { .. } => 409,
-        Reply::BadFields { .. } | Reply::Refused { .. } => 422,
+        Reply::BadFields { .. } | Reply::ObservationLate { .. } | Reply::Refused { .. } => 422,
         Reply::NoMemory => 500,
         Reply::ClockRange { .. }
         | Reply::EntropyRepeat { .. }
@@ -81,6 +87,10 @@ fn json_of(alloc: Global, reply: &Reply) -> Result<String, AllocError>
 {
     match reply {
         Reply::Placed { order } => format!(in alloc; "{{\"order\":{order},\"reply\":\"placed\"}}"),
+        Reply::ChallengeMade { challenge, text } => challenge_made_json(alloc, *challenge, text),
+        Reply::Observed { number } => format!(in alloc;
+            "{{\"number\":{number},\"reply\":\"observed\"}}"
+        ),
         Reply::Issued {
             order,
             serial,
@@ -94,12 +104,14 @@ fn json_of(alloc: Global, reply: &Reply) -> Result<String, AllocError>
             "{{\"reading\":{reading},\"reply\":\"clock_range\"}}"
         ),
         Reply::NoSuchOrder => String::from_str(alloc, "{\"reply\":\"no_such_order\"}"),
+        Reply::NoSuchChallenge => String::from_str(alloc, "{\"reply\":\"no_such_challenge\"}"),
         Reply::KeyReused { kept } => format!(in alloc;
             "{{\"kept\":{kept},\"reply\":\"key_reused\"}}"
         ),
         Reply::BadFields { rule } => format!(in alloc;
             "{{\"reply\":\"bad_fields\",\"rule\":{rule}}}"
         ),
+        Reply::ObservationLate { m } => observation_late_json(alloc, *m),
         Reply::EntropyRepeat { value } => entropy_repeat_json(alloc, value),
         Reply::Refused { why } => refused_json(alloc, why.as_slice()),
         Reply::Full => String::from_str(alloc, "{\"reply\":\"full\"}"),
@@ -110,6 +122,24 @@ fn json_of(alloc: Global, reply: &Reply) -> Result<String, AllocError>
         Reply::JournalBad { at } => format!(in alloc; "{{\"at\":{at},\"reply\":\"journal_bad\"}}"),
         Reply::NoMemory => String::from_str(alloc, "{\"reply\":\"no_memory\"}"),
     }
+}
+
+fn challenge_made_json(alloc: Global, challenge: u64, text: &Bytes) -> Result<String, AllocError>
+    ensures { IfOk result (λ json. string_bytes json ≡ json_of (ChallengeMade challenge text.now)) }
+{
+    let mut json = format!(in alloc;
+        "{{\"challenge\":{challenge},\"reply\":\"challenge_made\",\"text\":\""
+    )?;
+    json.push_str(text_json(alloc, text.as_slice())?.as_str())?;
+    json.push_str("\"}")?;
+    Ok(json)
+}
+
+fn observation_late_json(alloc: Global, moment: Moment) -> Result<String, AllocError>
+    ensures { IfOk result (λ json. string_bytes json ≡ json_of (ObservationLate moment)) }
+{
+    let seconds = moment.0;
+    format!(in alloc; "{{\"m\":{seconds},\"reply\":\"observation_late\"}}")
 }
 
 fn issued_json(
@@ -125,7 +155,7 @@ fn issued_json(
     json.push_str("\",\"order\":")?;
     json.push_str(format!(in alloc; "{order}")?.as_str())?;
     json.push_str(",\"reply\":\"issued\",\"serial\":\"")?;
-    json.push_str(hex_of(alloc, serial)?.as_str())?;
+    json.push_str(hex_of(alloc, &serial.0)?.as_str())?;
     json.push_str("\"}")?;
     Ok(json)
 }
@@ -134,7 +164,7 @@ fn entropy_repeat_json(alloc: Global, value: &Sixteen) -> Result<String, AllocEr
     ensures { IfOk result (λ json. string_bytes json ≡ json_of (EntropyRepeat value.now)) }
 {
     let mut json = String::from_str(alloc, "{\"reply\":\"entropy_repeat\",\"value\":\"")?;
-    json.push_str(hex_of(alloc, value)?.as_str())?;
+    json.push_str(hex_of(alloc, &value.0)?.as_str())?;
     json.push_str("\"}")?;
     Ok(json)
 }
@@ -172,6 +202,169 @@ fn reason_json(alloc: Global, why: &Why) -> Result<String, AllocError>
         Why::KeyBlocked { number } => format!(in alloc;
             "{{\"number\":{number},\"rule\":\"key_blocked\"}}"
         ),
+        Why::NoProof { target } => named_json(alloc, target, "no_proof"),
+        Why::ProofTooFew {
+            target,
+            good,
+            needed,
+        } => counted_json(alloc, target, *good, *needed, "proof_too_few"),
+        Why::ProofOneRegion { target } => named_json(alloc, target, "proof_one_region"),
+        Why::ProofOld { target, seen_at } => {
+            dated_json(alloc, target, "proof_old", "seen_at", *seen_at)
+        }
+        Why::CaaMissing { target } => named_json(alloc, target, "caa_missing"),
+        Why::CaaUnknown { target, drop } => dropped_json(alloc, target, *drop, "caa_unknown"),
+        Why::CaaOld { target, until } => dated_json(alloc, target, "caa_old", "until", *until),
+        Why::CaaCritical { target, tag } => tagged_json(alloc, target, "caa_critical", tag),
+        Why::CaaDenied { target, drop } => dropped_json(alloc, target, *drop, "caa_denied"),
+        Why::CaaTooFew {
+            target,
+            good,
+            needed,
+        } => counted_json(alloc, target, *good, *needed, "caa_too_few"),
+        Why::CaaOneRegion { target } => named_json(alloc, target, "caa_one_region"),
+    }
+}
+
+/// A target and the rule.
+fn named_json(alloc: Global, target: &Target, rule: &str) -> Result<String, AllocError>
+    ensures { IfOk result (λ json. string_bytes json ≡ named_json target.now rule.now) }
+{
+    let mut json = String::from_str(alloc, "{")?;
+    json.push_str(name_json(alloc, target)?.as_str())?;
+    json.push_str(",\"rule\":\"")?;
+    json.push_str(rule)?;
+    json.push_str("\"}")?;
+    Ok(json)
+}
+
+/// How many perspectives are good and how many are needed.
+fn counted_json(
+    alloc: Global,
+    target: &Target,
+    good: u64,
+    needed: u64,
+    rule: &str,
+) -> Result<String, AllocError>
+    ensures { IfOk result (λ json. string_bytes json ≡ counted_json target.now good needed rule.now) }
+{
+    let mut json = format!(in alloc; "{{\"good\":{good},")?;
+    json.push_str(name_json(alloc, target)?.as_str())?;
+    json.push_str(format!(in alloc; ",\"needed\":{needed},\"rule\":\"")?.as_str())?;
+    json.push_str(rule)?;
+    json.push_str("\"}")?;
+    Ok(json)
+}
+
+/// How many labels are left out in front of the name.
+fn dropped_json(
+    alloc: Global,
+    target: &Target,
+    count: u64,
+    rule: &str,
+) -> Result<String, AllocError>
+    ensures { IfOk result (λ json. string_bytes json ≡ dropped_json target.now count rule.now) }
+{
+    let mut json = format!(in alloc; "{{\"drop\":{count},")?;
+    json.push_str(name_json(alloc, target)?.as_str())?;
+    json.push_str(",\"rule\":\"")?;
+    json.push_str(rule)?;
+    json.push_str("\"}")?;
+    Ok(json)
+}
+
+/// A moment under its name.
+fn dated_json(
+    alloc: Global,
+    target: &Target,
+    rule: &str,
+    member: &str,
+    moment: Moment,
+) -> Result<String, AllocError>
+    ensures { IfOk result (λ json. string_bytes json ≡ dated_json target.now rule.now member.now moment.0) }
+{
+    let seconds = moment.0;
+    let mut json = String::from_str(alloc, "{")?;
+    json.push_str(name_json(alloc, target)?.as_str())?;
+    json.push_str(",\"rule\":\"")?;
+    json.push_str(rule)?;
+    json.push_str("\",\"")?;
+    json.push_str(member)?;
+    json.push_str(format!(in alloc; "\":{seconds}}}")?.as_str())?;
+    Ok(json)
+}
+
+/// A record's tag.
+fn tagged_json(
+    alloc: Global,
+    target: &Target,
+    rule: &str,
+    tag: &Bytes,
+) -> Result<String, AllocError>
+    ensures { IfOk result (λ json. string_bytes json ≡ tagged_json target.now rule.now tag.now) }
+{
+    let mut json = String::from_str(alloc, "{")?;
+    json.push_str(name_json(alloc, target)?.as_str())?;
+    json.push_str(",\"rule\":\"")?;
+    json.push_str(rule)?;
+    json.push_str("\",\"tag\":\"")?;
+    json.push_str(hex_of(alloc, tag.as_slice())?.as_str())?;
+    json.push_str("\"}")?;
+    Ok(json)
+}
+
+/// The member that names a target.
+fn name_json(alloc: Global, target: &Target) -> Result<String, AllocError>
+    ensures { IfOk result (λ json. string_bytes json ≡ name_json target.now) }
+{
+    let text = text_of_target(alloc, target)?;
+    let mut json = String::from_str(alloc, "\"name\":\"")?;
+    json.push_str(text_json(alloc, &text)?.as_str())?;
+    json.push_str("\"")?;
+    Ok(json)
+}
+
+fn text_of_target(alloc: Global, target: &Target) -> Result<Vec<u8>, AllocError>
+    ensures { IfOk result (λ text. text.items ≡ target_text target.now) }
+{
+    let mut text = Vec::new(alloc);
+    match target_text(target, &mut text) {
+        Ok(()) => Ok(text),
+        Err(_) => Err(AllocError),
+    }
+}
+
+/// A text in a JSON string, each of its bytes as the character of that number.
+fn text_json(alloc: Global, bytes: &[u8]) -> Result<String, AllocError>
+    ensures { IfOk result (λ json. string_bytes json ≡ text_json bytes.now) }
+{
+    let mut json = String::new(alloc);
+    let mut rest = bytes;
+    while let [byte, behind @ ..] = rest {
+        push_character(alloc, *byte, &mut json)?;
+        rest = behind;
+    }
+    Ok(json)
+}
+
+/// Appends what stands in a JSON string for a character.
+#[tactic(auto, unfolding(crate::specs::Reply::character_json))]
+fn push_character(alloc: Global, byte: u8, json: &mut String) -> Result<(), AllocError>
+    ensures { OnOk result (string_bytes json.new ≡ string_bytes json.old ++ character_json byte) }
+{
+    match byte {
+        b'"' => json.push_str("\\\""),
+        b'\\' => json.push_str("\\\\"),
+        8 => json.push_str("\\b"),
+        9 => json.push_str("\\t"),
+        10 => json.push_str("\\n"),
+        12 => json.push_str("\\f"),
+        13 => json.push_str("\\r"),
+        0..32 => {
+            json.push_str("\\u00")?;
+            json.push_str(byte_hex(alloc, byte)?.as_str())
+        }
+        _ => json.push(char::from(byte)),
     }
 }
 
@@ -182,11 +375,11 @@ fn base64_of(alloc: Global, bytes: &Bytes) -> Result<String, AllocError>
     STANDARD.encode(alloc, bytes.as_slice())
 }
 
-fn hex_of(alloc: Global, value: &Sixteen) -> Result<String, AllocError>
-    ensures { IfOk result (λ text. string_bytes text ≡ hex_of value.now.0) }
+fn hex_of(alloc: Global, bytes: &[u8]) -> Result<String, AllocError>
+    ensures { IfOk result (λ text. string_bytes text ≡ hex_of bytes.now) }
 {
     let mut text = String::new(alloc);
-    let mut rest = value.0.as_slice();
+    let mut rest = bytes;
     while let [byte, behind @ ..] = rest {
         text.push_str(byte_hex(alloc, *byte)?.as_str())?;
         rest = behind;

@@ -1,3 +1,5 @@
+mod replies;
+
 use super::*;
 use gate_base::{Bytes, Labels, Sixteen, Target, Targets};
 use gate_entries::{Command, Reply, Why, Whys};

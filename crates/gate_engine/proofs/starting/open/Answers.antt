@@ -7,13 +7,13 @@ use Rattle.gate_engine.proofs.starting.open.Goals as goal
 
 pub returns-in-Err-clause-refused : goal.returns-in-Err-clause-refused
 returns-in-Err-clause-refused g c = λ bytes told.
-    refuses c.in-Err.fault c.start_fault.result bytes c.start_fault.ensures (c.in-Err.ensures.fault bytes told)
+    refuses c.in-Err.fault c.start_fault.result bytes c.start_fault.ensures.is (c.in-Err.ensures.fault bytes told)
 
 pub returns-in-Err-clause-good : goal.returns-in-Err-clause-good
 returns-in-Err-clause-good g c = λ bytes told before sound stands.
     let pair = g.met.P.Plant.reads c.args.plant.now bytes told in
     outside c.one_entry_more.ensures.legal c.one_history.ensures.good c.no_journal_is_refused.ensures bytes before sound (stands bytes pair.0 pair.1)
-    c.start_fault.result (refuses c.in-Err.fault c.start_fault.result bytes c.start_fault.ensures (c.in-Err.ensures.fault bytes told))
+    c.start_fault.result (refuses c.in-Err.fault c.start_fault.result bytes c.start_fault.ensures.is (c.in-Err.ensures.fault bytes told))
 
 pub returns-in-Ok-clause-kept : goal.returns-in-Ok-clause-kept
 returns-in-Ok-clause-kept g c =

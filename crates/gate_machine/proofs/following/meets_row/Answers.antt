@@ -13,3 +13,8 @@ pub returns-in-Order : goal.returns-in-Order
 returns-in-Order c =
     subst (λ (w : What). IfOk c.order_comes.result (λ meets. IsTrue meets ↔ MeetsRow c.args.before.now c.args.caller.now c.args.moment w)) (sym c.in-Order.is)
     c.order_comes.ensures
+
+pub returns-in-Settings : goal.returns-in-Settings
+returns-in-Settings c =
+    subst (λ (w : What). IfOk c.settings_come.result (λ meets. IsTrue meets ↔ MeetsRow c.args.before.now c.args.caller.now c.args.moment w)) (sym c.in-Settings.is)
+    c.settings_come.ensures

@@ -3,7 +3,7 @@ use Rattle.wire_front.specs.Reply.{hex_of}
 use Rattle.wire_front.proofs.replying.hex_of.Given as goal
 
 abbrev pub invariant-loop-rest : goal.invariant-loop-rest
-invariant-loop-rest l = string_bytes l.text ++ hex_of l.rest ≡ hex_of l.value.0
+invariant-loop-rest l = string_bytes l.text ++ hex_of l.rest ≡ hex_of l.bytes
 
 abbrev pub decreases-loop-rest : goal.decreases-loop-rest
 decreases-loop-rest l = length l.rest
