@@ -1,0 +1,5 @@
+pub mod Judgements
+pub mod Counts
+pub mod JsonLemmas
+pub mod PathLemmas
+pub mod TargetLemmas

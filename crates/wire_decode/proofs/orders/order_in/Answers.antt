@@ -1,0 +1,9 @@
+use Rattle.serde_json.specs.View.{view}
+use Rattle.gate_entries.specs.Command.{HasNames}
+use Rattle.wire_decode.proofs.Judgements.{exactly_holds}
+use Rattle.wire_decode.proofs.orders.order_in.Goals as goal
+
+pub returns-clause-names : goal.returns-clause-names
+returns-clause-names c =
+    let read = c.order_from-read in
+    exactly_holds HasNames 5 (view c.args.body.now) read.result c.exactly.result read.ensures.names c.exactly.ensures

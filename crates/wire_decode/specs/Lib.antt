@@ -1,0 +1,9 @@
+pub mod Judgement
+pub mod Members
+pub mod Words
+pub mod Bodies
+pub mod Routes
+pub mod Decode
+pub mod Response
+pub mod Reply
+pub mod Fault
