@@ -2,7 +2,7 @@
 
 These are cases of `acceptance/commands`. A block of a document is marked by its kind: `sh` is run, `hex NAME` and
 `http NAME` are compared with what the program reads and writes. A line of a `hex` block has bytes, and behind two
-spaces or more a remark; `11 × 64` stands for 64 bytes 11.
+spaces or more a remark; `11 × 64` stands for 64 bytes 11, and the path of an example for the bytes of its file.
 """
 
 import os
@@ -45,6 +45,9 @@ def bytes_of(listing):
     found = b""
     for line in listing.splitlines():
         written = re.split(" {2,}", line.strip())[0]
+        if written.startswith("examples/"):
+            found += (TOP / written).read_bytes()
+            continue
         for octets, times in re.findall(r"([0-9a-f]+)(?: × (\d+))?(?: |$)", written):
             found += bytes.fromhex(octets) * int(times or 1)
     return found
@@ -118,7 +121,7 @@ def journal(gate):
     for count, name in enumerate(["order", "sent", "signed"], 1):
         front, whole = [len(journal_of(payloads[:some])) for some in (count, count + 1)]
         check(name, (journal_of(payloads)[front : whole - 1] + CLOSED).hex(), found[name].hex())
-    check("bytes of the journal", 485, len(journal_of(payloads)))
+    check("bytes of the journal", 1_715, len(journal_of(payloads)))
     blocked = b"\x08" + (2).to_bytes(8, "big") + at + b"\0\x02op" + b"\x02k1" + b"\0\x03\xaa\xbb\xcc"
     check("a blocked key", blocked.hex(), found["blocked"].hex())
 

@@ -18,6 +18,8 @@ PROGRAM = TOP / "crates" / "gate_server" / "out" / "gate_server"
 SECONDS = 60
 SIGNER = "standin:00112233445566778899aabbccddeeff"
 USAGE = "usage: gate JOURNAL CONF SIGNER WORDS"
+# Readable settings, in which the account `acme` has the messages' token.
+EXAMPLE = (TOP / "examples" / "settings.toml").read_bytes()
 # The journal's file by docs/FORMATS.md: the head, the first gate's place, and what a group takes beside its payload.
 HEAD = b"gate journal 01\n"
 FIRST_GATE = len(HEAD)
@@ -25,7 +27,10 @@ CLOSED, OPEN = b"\0", b"\1"
 NO_CHAIN = bytes(32)
 BARE_BYTES = 37
 MOST_PAYLOAD = 1_114_112
-BEGUN_BYTES = 77
+# A Settings entry is its fields, kind, number, moment, caller and count, and the settings; the journal begun with
+# the example is the head, the first gate and its group.
+SETTINGS_FIELDS = 1 + 8 + 8 + 2 + 4
+BEGUN_BYTES = FIRST_GATE + 1 + BARE_BYTES + SETTINGS_FIELDS + len(EXAMPLE)
 # A small disk.
 DISK_BYTES = 65_536
 
@@ -171,6 +176,12 @@ def journal_of(payloads):
     return written + CLOSED
 
 
+def settings_payload(number, moment, settings, caller=b""):
+    """The payload of a Settings entry by docs/FORMATS.md; a legal one has no caller."""
+    fields = b"\1" + number.to_bytes(8, "big") + moment.to_bytes(8, "big") + len(caller).to_bytes(2, "big") + caller
+    return fields + len(settings).to_bytes(4, "big") + settings
+
+
 def groups_from(written, at=FIRST_GATE, chain=NO_CHAIN):
     """The payloads from the gate at a place on, the place of the closed gate behind them, and the last chain."""
     payloads = []
@@ -215,13 +226,13 @@ def file_limit(bytes_at_most):
 
 
 class Gate:
-    """A journal and empty settings in a folder of their own, and the program over them."""
+    """A journal and the example's settings in a folder of their own, and the program over them."""
 
     def __init__(self, folder):
         self.folder = pathlib.Path(folder)
         self.journal = self.folder / "journal"
         self.settings = self.folder / "settings"
-        self.settings.write_bytes(b"")
+        self.settings.write_bytes(EXAMPLE)
 
     def run(self, *words, sent=b"", signer=SIGNER, journal=None, settings=None, seconds=SECONDS):
         journal = self.journal if journal is None else journal
